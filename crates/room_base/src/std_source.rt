@@ -1,0 +1,48 @@
+ghost use Rattle.std.specs.Prelude.{◌≤◌, false, [], ⊤, length, IfOk};
+
+use crate::calls::risen_count;
+use crate::{Failed, Source};
+use std::io::{ErrorKind, Read};
+
+/// How often a read that was interrupted by a signal is tried again.
+const TRIES: u32 = 64;
+
+/// A reader of the system as a source, such as standard input. It tells nothing of its bytes.
+#[derive(Debug, Drop)]
+pub struct StdSource<R: Read> {
+    reader: R,
+    faults: u64,
+}
+
+impl<R: Read> StdSource<R> {
+    pub fn new(reader: R) -> StdSource<R> {
+        StdSource { reader, faults: 0 }
+    }
+}
+
+impl<R: Read> Source for StdSource<R> {
+    ghost view = { λ source. record { tells = false; taken = []; left = []; faults = source.faults } };
+
+    ghost takes_alone = { λ _ _. ⊤ };
+
+    fn take(&mut self, into: &mut [u8]) -> Result<u64, Failed> {
+        let read = read_some(&mut self.reader, into);
+        if read.is_err() {
+            self.faults = risen_count(self.faults);
+        }
+        read
+    }
+}
+
+fn read_some<R: Read>(reader: &mut R, into: &mut [u8]) -> Result<u64, Failed>
+    ensures { IfOk result (λ count. count ≤ length into.old) }
+{
+    for _ in 0..TRIES {
+        match reader.read(into) {
+            Ok(count) => return Ok(count as u64),
+            Err(fault) if fault.kind() == ErrorKind::Interrupted => {}
+            Err(_) => break,
+        }
+    }
+    Err(Failed)
+}

@@ -1,0 +1,26 @@
+-- What a write and a cut do to a file's bytes, and what a crash may leave of them.
+use Rattle.std.specs.Prelude.{◌≡◌, ◌⊎◌, ℕ, ◌+◌, ◌-◌, ◌<◌, ◌≤◌, max, List, [], ◌∷◌, ◌++◌, length, take, drop, replicate, slice_index}
+
+-- the file with the bytes written at a place; where that is past the end, zeros come between
+abbrev pub overlaid : ℕ → List ℕ → List ℕ → List ℕ
+overlaid at bytes file = take at file ++ replicate (at - length file) 0 ++ bytes ++ drop (at + length bytes) file
+
+-- the letters that open a journal file, an entry, a label and a mark
+abbrev pub IsGateLetter : ℕ → Type 0
+IsGateLetter byte = (byte ≡ 0x4A) ⊎ (byte ≡ 0x45) ⊎ (byte ≡ 0x4C) ⊎ (byte ≡ 0x46)
+
+-- A write that may have been cut short: any bytes in its range and past the old end, the same elsewhere,
+-- and any length between. Of a single byte no gate letter is left that is neither the old nor the new byte.
+pub record Torn (at : ℕ) (bytes old new : List ℕ) : Type 0 where
+  pub before : (place : ℕ) → place < at → place < length old → slice_index new place ≡ slice_index old place
+  pub behind : (place : ℕ) → at + length bytes ≤ place → place < length old → slice_index new place ≡ slice_index old place
+  pub no_shorter : length old ≤ length new
+  pub no_longer : length new ≤ max (length old) (at + length bytes)
+  pub gate : (letter : ℕ) → bytes ≡ letter ∷ [] → IsGateLetter (slice_index new at)
+    → (slice_index new at ≡ letter) ⊎ (slice_index new at ≡ slice_index old at)
+
+-- A cut that may have been cut short itself: some length between, any bytes in the part that was to go.
+pub record CutShort (to : ℕ) (old new : List ℕ) : Type 0 where
+  pub before : (place : ℕ) → place < to → place < length old → slice_index new place ≡ slice_index old place
+  pub no_shorter : to ≤ length new
+  pub no_longer : length new ≤ length old
