@@ -1,8 +1,8 @@
 -- Bytes that are taken from the front of those left.
-use Rattle.std.proofs.Common.{◌≡◌, ◌≤◌, ◌<◌, ℕ, ◌+◌, ◌-◌, List, [], ◌++◌, length, min, take, drop, true, sym, arith, Bool}
-use Rattle.std.proofs.lemmas.List.{drop-drop, length-drop, nil_from_length}
+use Rattle.std.proofs.Common.{◌≡◌, ℕ, ◌+◌, List, length, min, take, drop, sym, arith, Bool}
+use Rattle.std.proofs.lemmas.List.{drop-drop, nil_from_length}
 use Rattle.std.proofs.Math.Seq.{take-add}
-use Rattle.room_base.specs.Outside.{Moves, SourceView}
+use Rattle.room_base.specs.Outside.{Moves}
 
 pub takes_on : (bytes into : List ℕ) (at count : ℕ) (tells : Bool) (before after : ℕ)
     → count ≡ min (length (drop at bytes)) (length into) → take count into ≡ take count (drop at bytes)

@@ -1,5 +1,5 @@
 -- Objects in memory: the calls made of them, and those that are to fail.
-use Rattle.std.specs.Prelude.{◌≡◌, ◌⊎◌, ℕ, ◌+◌, ◌-◌, ◌^◌, min, true, List, Contains, Result, Bool, IsOk, IsErr, is_err, if◌then◌else◌}
+use Rattle.std.specs.Prelude.{◌≡◌, ◌⊎◌, ℕ, true, List, Contains, Result, IsOk, IsErr, is_err, if◌then◌else◌}
 use Rattle.room_base.specs.Faults.{risen}
 use Rattle.room_base.specs.Outside.{SourceView, SinkView, ClockView}
 use Rattle.room_base.specs.declared.numbers.Moment.{Moment}

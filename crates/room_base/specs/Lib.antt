@@ -1,5 +1,6 @@
 pub mod Calls
 pub mod Faults
 pub mod Lending
+pub mod Numbers
 pub mod Outside
 pub mod Text

@@ -1,13 +1,9 @@
-// A library with one function.
+//! The blocks of a volume: labels, marks and data blocks, each 4,096 bytes with a digest of its own.
+//! docs/formats.md has their bytes.
 #![tactic(auto)]
 
-ghost use Rattle.std.specs.Prelude.{◌≡◌};
-ghost use Rattle.volume_block.specs.Echo.{echo_of};
+mod block;
+mod label;
 
-// The `ensures` clause is the contract: what `echo` returns is `echo_of` of its argument, a definition
-// in `specs/Echo.antt`, which a caller's clause can cite too.
-pub fn echo(x: usize) -> usize
-    ensures { result ≡ echo_of x }
-{
-    x
-}
+pub use block::{BLOCK_SIZE, BadBlock, Block, Chunk, MAX_FILE_BLOCKS, PAYLOAD_SIZE, Reason};
+pub use label::{Label, MAX_CAPACITY, MAX_CART, MIN_CAPACITY};

@@ -1,0 +1,34 @@
+-- Chunks: pieces of save sets' streams, as a data block holds them.
+use Rattle.std.specs.Prelude.{◌≡◌, ℕ, ◌+◌, ◌≤◌, ◌<◌, ◌^◌, List, [], ◌∷◌, ◌++◌, length}
+use Rattle.std.specs.List.{flat_map}
+use Rattle.byteorder.specs.Endian.{big_bytes}
+
+-- bytes of a stream, from an offset on
+pub record ChunkText : Type 0 where
+  pub ssid : ℕ
+  pub copy : ℕ
+  pub offset : ℕ
+  pub bytes : List ℕ
+
+-- the fields are in their ranges
+pub record IsChunk (chunk : ChunkText) : Type 0 where
+  pub ssid : (1 ≤ chunk.ssid) × (chunk.ssid < 2 ^ 64)
+  pub copy : (1 ≤ chunk.copy) × (chunk.copy < 2 ^ 32)
+  pub some : 1 ≤ length chunk.bytes
+  pub ends : chunk.offset + length chunk.bytes ≤ 2 ^ 36
+
+-- how a chunk is spelled
+abbrev pub chunk_text : ChunkText → List ℕ
+chunk_text chunk = big_bytes 8 chunk.ssid ++ big_bytes 4 chunk.copy ++ big_bytes 8 chunk.offset
+    ++ big_bytes 4 (length chunk.bytes) ++ chunk.bytes
+
+-- how chunks are spelled, one behind the other
+abbrev pub chunks_text : List ChunkText → List ℕ
+chunks_text chunks = flat_map chunk_text chunks
+
+-- The chunks, in their order, are those of one copy from this offset on, and join to these bytes.
+abbrev pub JoinFrom : ℕ → ℕ → ℕ → List ChunkText → List ℕ → Type 0
+JoinFrom ssid copy offset [] bytes = bytes ≡ []
+JoinFrom ssid copy offset (chunk ∷ chunks) bytes =
+    (chunk.ssid ≡ ssid) × (chunk.copy ≡ copy) × (chunk.offset ≡ offset)
+    × ((rest : List ℕ) × (bytes ≡ chunk.bytes ++ rest) × JoinFrom ssid copy (offset + length chunk.bytes) chunks rest)

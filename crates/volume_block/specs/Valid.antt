@@ -1,0 +1,71 @@
+-- What a valid block is: it is spelled as its fields say.
+use Rattle.std.specs.Prelude.{◌≡◌, ◌≢◌, ℕ, ◌-◌, ◌≤◌, ◌<◌, ◌^◌, List, [], ◌∷◌, ◌++◌, length, take, drop, replicate, All}
+use Rattle.byteorder.specs.Endian.{big_bytes}
+use Rattle.room_base.specs.Text.{IsName}
+use Rattle.room_base.specs.Numbers.{max_moment}
+use Rattle.volume_block.specs.Layout.{block_text}
+use Rattle.volume_block.specs.Chunks.{ChunkText, IsChunk, chunks_text}
+use Rattle.volume_block.specs.declared.label.Label.{Label}
+use Rattle.volume_block.specs.declared.block.Block.{Block}
+use Rattle.volume_block.specs.declared.block.Block.TheVariants as kinds
+
+-- a volume's number in a block
+abbrev pub IsVolid : ℕ → Type 0
+IsVolid volid = (1 ≤ volid) × (volid < 2 ^ 64)
+
+-- a block's number, of a block behind the label
+abbrev pub IsNumber : ℕ → Type 0
+IsNumber number = (1 ≤ number) × (number < 2 ^ 64)
+
+-- the fields are in their ranges
+pub record IsLabel (label : Label) : Type 0 where
+  pub volid : IsVolid label.volid.0
+  pub cart : (1 ≤ label.cart.0) × (label.cart.0 ≤ 256)
+  pub capacity : (67 ≤ label.capacity) × (label.capacity ≤ 1000000)
+  pub made : label.made.0 ≤ max_moment
+  pub pool_length : (1 ≤ label.pool_length) × (label.pool_length ≤ 64)
+  pub pool : IsName (take label.pool_length label.pool)
+  pub zeros : drop label.pool_length label.pool ≡ replicate (64 - label.pool_length) 0
+
+-- a label's payload
+abbrev pub label_payload : Label → List ℕ
+label_payload label = big_bytes 4 label.cart.0 ++ big_bytes 4 label.capacity ++ big_bytes 8 label.made.0
+    ++ (label.pool_length ∷ take label.pool_length label.pool)
+
+-- how a label is spelled
+abbrev pub label_text : Label → List ℕ
+label_text label = block_text 0x4C label.volid.0 0 (label_payload label)
+
+-- a mark counts from 1 to 64 data blocks
+abbrev pub IsCount : ℕ → Type 0
+IsCount count = (1 ≤ count) × (count ≤ 64)
+
+-- how a mark is spelled
+abbrev pub mark_text : ℕ → ℕ → ℕ → List ℕ
+mark_text volid number count = block_text 0x46 volid number (big_bytes 4 count)
+
+-- how a data block of these chunks is spelled
+abbrev pub data_text : ℕ → ℕ → List ChunkText → List ℕ
+data_text volid number chunks = block_text 0x44 volid number (chunks_text chunks)
+
+-- the chunks that a data block may have
+pub record AreChunks (chunks : List ChunkText) : Type 0 where
+  pub some : chunks ≢ []
+  pub fit : length (chunks_text chunks) ≤ 4040
+  pub each : All IsChunk chunks
+
+-- the bytes are a data block of this volume and number, with these chunks
+pub record HoldsChunks (bytes : List ℕ) (volid number : ℕ) (chunks : List ChunkText) : Type 0 where
+  pub of_volume : IsVolid volid
+  pub placed : IsNumber number
+  pub allowed : AreChunks chunks
+  pub text : bytes ≡ data_text volid number chunks
+
+-- The bytes are this block, of this volume and number.
+abbrev pub ValidBlock : List ℕ → ℕ → ℕ → Block → Type 0
+ValidBlock bytes volid number (kinds.Label label) =
+    IsLabel label × (volid ≡ label.volid.0) × (number ≡ 0) × (bytes ≡ label_text label)
+ValidBlock bytes volid number (kinds.Mark count) =
+    IsVolid volid × IsNumber number × IsCount count × (bytes ≡ mark_text volid number count)
+ValidBlock bytes volid number (kinds.Data used) =
+    (chunks : List ChunkText) × HoldsChunks bytes volid number chunks × (used ≡ length (chunks_text chunks))

@@ -1,0 +1,24 @@
+use room_base::{Cart, Moment, Volid};
+
+/// There are so many cartridges.
+pub const MAX_CART: u32 = 256;
+
+/// The fewest blocks that a volume may have: a label, and a mark with the most data blocks and the
+/// closed block behind them.
+pub const MIN_CAPACITY: u32 = 67;
+
+/// The most blocks that a volume may have.
+pub const MAX_CAPACITY: u32 = 1_000_000;
+
+/// What a volume's label says. The bytes of `pool` behind its first `pool_length` are zero.
+#[derive(Clone, Copy, Debug, PartialEq, Eq)]
+pub struct Label {
+    pub volid: Volid,
+    pub cart: Cart,
+    /// How many blocks the volume may have.
+    pub capacity: u32,
+    /// When it was labelled.
+    pub made: Moment,
+    pub pool_length: u8,
+    pub pool: [u8; 64],
+}
