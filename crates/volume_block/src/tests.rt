@@ -1,3 +1,6 @@
+ghost use Rattle.std.specs.Prelude.{◌≤◌, length};
+ghost use Rattle.volume_block.specs.Valid.{IsLabel};
+
 use super::*;
 use room_base::{Cart, CopyNo, Moment, Ssid, Volid};
 use std::test::*;
@@ -25,39 +28,59 @@ const DATA_FRONT: [u8; 83] = [
     0, 0, 0, 1, 0, 0, 0, 1, 0, 0, 0, 0, 0, 0, 0, 0, 0, 0, 0, 3, b'a', b'b', b'c',
 ];
 
-#[test]
-fn label(rt: HostRuntime) {
-    let mut pool = [0u8; 64];
-    pool[..3].copy_from_slice(b"Raw");
-    let label = Label {
+// The name `Raw` with the zeros behind it.
+const POOL: [u8; 64] = [
+    b'R', b'a', b'w', 0, 0, 0, 0, 0, 0, 0, 0, 0, 0, 0, 0, 0, 0, 0, 0, 0, 0, 0, 0, 0, 0, 0, 0, 0, 0,
+    0, 0, 0, 0, 0, 0, 0, 0, 0, 0, 0, 0, 0, 0, 0, 0, 0, 0, 0, 0, 0, 0, 0, 0, 0, 0, 0, 0, 0, 0, 0, 0,
+    0, 0, 0,
+];
+
+fn raw_label() -> Label
+    ensures { IsLabel result }
+{
+    Label {
         volid: RAW_VOLID,
         cart: Cart(1),
         capacity: 1_000_000,
         made: Moment(1_700_000_000),
         pool_length: 3,
-        pool,
-    };
+        pool: POOL,
+    }
+}
+
+// The block is this front, and zeros.
+fn is_front(block: &[u8], front: &[u8]) -> bool
+    requires { length front.now ≤ length block.now }
+{
+    let (begin, rest) = block.split_at(front.len());
+    begin == front && rest.iter().all(|byte| *byte == 0)
+}
+
+#[test]
+fn label(rt: HostRuntime) {
     let mut block = [0xFFu8; BLOCK_SIZE];
-    encode_label(&label, &mut block);
-    assert_eq!(rt; &block[..76], LABEL_FRONT.as_slice());
-    assert!(rt; block[76..].iter().all(|byte| *byte == 0));
+    encode_label(&raw_label(), &mut block);
+    assert!(rt; is_front(&block, &LABEL_FRONT));
 }
 
 #[test]
 fn mark(rt: HostRuntime) {
     let mut block = [0xFFu8; BLOCK_SIZE];
     encode_mark(RAW_VOLID, 1, 1, &mut block);
-    assert_eq!(rt; &block[..60], MARK_FRONT.as_slice());
-    assert!(rt; block[60..].iter().all(|byte| *byte == 0));
+    assert!(rt; is_front(&block, &MARK_FRONT));
 }
 
 #[test]
 fn data_block(rt: HostRuntime) {
     let mut block = [0xFFu8; BLOCK_SIZE];
-    write_chunk_head(Ssid(1), CopyNo(1), 0, 3, &mut block[PAYLOAD_START..]);
-    let bytes_start = PAYLOAD_START + CHUNK_HEAD_SIZE;
-    block[bytes_start..bytes_start + 3].copy_from_slice(b"abc");
+    put_abc(&mut block[PAYLOAD_START..]);
     seal_data(RAW_VOLID, 2, 27, &mut block);
-    assert_eq!(rt; &block[..83], DATA_FRONT.as_slice());
-    assert!(rt; block[83..].iter().all(|byte| *byte == 0));
+    assert!(rt; is_front(&block, &DATA_FRONT));
+}
+
+fn put_abc(payload: &mut [u8])
+    requires { 27 ≤ length payload.old }
+{
+    write_chunk_head(Ssid(1), CopyNo(1), 0, 3, payload);
+    payload[CHUNK_HEAD_SIZE..CHUNK_HEAD_SIZE + 3].copy_from_slice(b"abc");
 }

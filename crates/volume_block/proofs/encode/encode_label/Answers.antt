@@ -1,5 +1,4 @@
-use Rattle.std.proofs.Common.{◌≡◌, ◌≤◌, ◌+◌, ℕ, ◌∷◌, [], List, length, take, drop, refl, ap, ◌∙◌, arith, rules}
-use Rattle.std.proofs.lemmas.List.{length-take}
+use Rattle.std.proofs.Common.{◌≡◌, ◌≤◌, ℕ, List, length, take, refl, ap, ◌∙◌, arith, rules}
 use Rattle.volume_block.specs.Layout.{block_text}
 use Rattle.volume_block.specs.Valid.{label_payload}
 use Rattle.volume_block.proofs.Whole.{written}

@@ -1,4 +1,4 @@
-use Rattle.std.proofs.Common.{◌≡◌, ◌≤◌, ℕ, List, length, drop, take, refl, ap, ◌∙◌, arith, rules}
+use Rattle.std.proofs.Common.{◌≤◌, length, refl, ap, ◌∙◌, arith, rules}
 use Rattle.byteorder.specs.Endian.{big_bytes}
 use Rattle.volume_block.specs.Layout.{block_text}
 use Rattle.volume_block.proofs.Whole.{written}

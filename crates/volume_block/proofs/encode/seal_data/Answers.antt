@@ -1,7 +1,6 @@
-use Rattle.std.proofs.Common.{◌≡◌, ◌≤◌, ◌<◌, ◌^◌, List, length, take, drop, ap, sym, ◌∙◌, arith, rules}
+use Rattle.std.proofs.Common.{length, drop, ap, ◌∙◌, arith, rules}
 use Rattle.std.proofs.lemmas.List.{length-take, length-drop}
 use Rattle.volume_block.specs.Layout.{block_text}
-use Rattle.volume_block.specs.Valid.{HoldsChunks}
 use Rattle.volume_block.proofs.encode.seal_data.Goals as goal
 
 pub returns-clause-holds : goal.returns-clause-holds

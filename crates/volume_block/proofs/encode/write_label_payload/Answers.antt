@@ -1,4 +1,4 @@
-use Rattle.std.proofs.Common.{◌≡◌, ◌+◌, ◌-◌, List, ℕ, [], ◌∷◌, ◌++◌, length, drop, take, refl, ap, ◌∙◌, arith, rules}
+use Rattle.std.proofs.Common.{◌≡◌, ◌+◌, ◌-◌, List, ℕ, [], ◌∷◌, ◌++◌, length, drop, take, refl, ap, ◌∙◌, rules}
 use Rattle.byteorder.specs.Endian.{big_bytes}
 use Rattle.volume_block.proofs.Whole.{placed}
 use Rattle.volume_block.proofs.encode.write_label_payload.Goals as goal
