@@ -1,12 +1,15 @@
 -- How long blocks and regions are, and what closing a block changes.
-use Rattle.std.proofs.Common.{◌≡◌, ℕ, suc, ◌+◌, ◌-◌, ◌*◌, ◌≤◌, List, [], ◌∷◌, ◌++◌, length, drop, replicate, slice_index, slice_set, refl, ap, ◌∙◌, arith}
-use Rattle.std.proofs.lemmas.List.{length-append, length-replicate}
+use Rattle.std.proofs.Common.{◌≡◌, ℕ, suc, ◌+◌, ◌-◌, ◌*◌, ◌≤◌, List, [], ◌∷◌, ◌++◌, length, take, drop, replicate, slice_index, slice_set, refl, ap, ◌∙◌, arith}
+use Rattle.std.proofs.lemmas.List.{length-append, length-take, length-replicate}
 use Rattle.sha2.specs.Sha256.{sha256}
 use Rattle.sha2.proofs.Facts256.{length-sha256}
 use Rattle.volume_block.specs.Chunks.{ChunkText, chunk_head, chunk_text, chunks_text}
 use Rattle.volume_block.specs.Layout.{head_text, padded_payload, block_text, closed}
 use Rattle.volume_block.specs.Region.{closed_block, blocks_text, AreBlocks, IsSealed}
-use Rattle.volume_block.specs.Valid.{mark_text, data_text}
+use Rattle.volume_block.specs.Valid.{IsLabel, HoldsChunks, ValidBlock, label_fields, label_payload, label_text, mark_text, data_text}
+use Rattle.volume_block.specs.declared.label.Label.{Label}
+use Rattle.volume_block.specs.declared.block.Block.{Block}
+use Rattle.volume_block.specs.declared.block.Block.TheVariants as kinds
 
 -- ---- a block
 
@@ -53,13 +56,28 @@ opened (kind ∷ rest) = refl
 pub length-closed_block : length closed_block ≡ 4096
 length-closed_block = length-replicate {A = ℕ} 4096 0
 
--- ---- a region
+-- ---- each kind
+
+pub length-label_text : (label : Label) → IsLabel label → length (label_text label) ≡ 4096
+length-label_text label allowed =
+    length-block_text 0x4C label.volid.0 0 (label_payload label)
+    (omega (arith, length-append (label_fields label) (take label.pool_length label.pool), length-take label.pool_length label.pool, allowed.pool_length.1))
 
 pub length-mark_text : (volid number count : ℕ) → length (mark_text volid number count) ≡ 4096
 length-mark_text volid number count = length-block_text 0x46 volid number _ (omega arith)
 
 pub length-data_text : (volid number : ℕ) (chunks : List ChunkText) → length (chunks_text chunks) ≤ 4040 → length (data_text volid number chunks) ≡ 4096
 length-data_text volid number chunks fits = length-block_text 0x44 volid number (chunks_text chunks) fits
+
+pub length-held : (bytes : List ℕ) (volid number : ℕ) (chunks : List ChunkText) → HoldsChunks bytes volid number chunks → length bytes ≡ 4096
+length-held bytes volid number chunks held = ap length held.text ∙ length-data_text volid number chunks held.allowed.fit
+
+pub length-valid : (bytes : List ℕ) (volid number : ℕ) (block : Block) → ValidBlock bytes volid number block → length bytes ≡ 4096
+length-valid bytes volid number (kinds.Label label) valid = ap length valid.3 ∙ length-label_text label valid.0
+length-valid bytes volid number (kinds.Mark count) valid = ap length valid.3 ∙ length-mark_text volid number count
+length-valid bytes volid number (kinds.Data used) valid = length-held bytes volid number valid.0 valid.1
+
+-- ---- a region
 
 pub length-blocks_text : (volid first : ℕ) (blocks : List (List ChunkText)) → AreBlocks blocks → length (blocks_text volid first blocks) ≡ 4096 * length blocks
 length-blocks_text volid first [] allowed = refl

@@ -1,8 +1,7 @@
 -- A block that is made where its payload stands: the zeros, the head and the digest are written.
 use Rattle.std.proofs.Common.{◌≡◌, ℕ, ◌+◌, ◌-◌, ◌≤◌, List, [], ◌++◌, length, take, drop, replicate, refl, sym, ap, ◌∙◌, append_assoc, arith}
 use Rattle.std.proofs.lemmas.List.{append-nil, take_at, drop_at, drop-drop, drop-append-le, drop-take, drop_all, length-take, length-take-le, length-drop}
-use Rattle.sha2.specs.Sha256.{sha256}
-use Rattle.volume_block.specs.Layout.{head_text, block_text}
+use Rattle.volume_block.specs.Layout.{head_text, with_digest, block_text}
 use Rattle.volume_block.proofs.Lengths.{length-head_text}
 use borrow.Rule.Slice.PartMut.{put_mid}
 
@@ -25,7 +24,7 @@ padded skip used size old zeros whole fits filled =
 -- a head, the digest and a padded payload are a block
 block_is : (kind volid number used : ℕ) (payload rest : List ℕ) → length payload ≡ used
     → rest ≡ payload ++ replicate (4040 - used) 0
-    → head_text kind used volid number ++ sha256 (head_text kind used volid number ++ rest) ++ rest ≡ block_text kind volid number payload
+    → with_digest (head_text kind used volid number) rest ≡ block_text kind volid number payload
 unfolding block_text
 block_is kind volid number used payload rest count padding = rw (padding, ← count) refl
 
@@ -39,7 +38,7 @@ behind_front front old size skip count =
 pub sealed : (kind volid number used : ℕ) (old zeros headed whole : List ℕ) → length old ≡ 4096 → used ≤ 4040
     → zeros ≡ replicate (length (take (length old - (56 + used)) (drop (56 + used) old))) 0
     → headed ≡ head_text kind used volid number ++ drop 24 (put_mid (56 + used) (length old - (56 + used)) old zeros)
-    → whole ≡ take 24 headed ++ sha256 (take 24 headed ++ drop 56 headed) ++ drop 56 headed
+    → whole ≡ with_digest (take 24 headed) (drop 56 headed)
     → whole ≡ block_text kind volid number (take used (drop 56 old))
 sealed kind volid number used old zeros headed whole full fits filled heading ending =
     let blank = put_mid (56 + used) (length old - (56 + used)) old zeros in
@@ -51,7 +50,7 @@ sealed kind volid number used old zeros headed whole full fits filled heading en
     ∙ padded 56 used 4040 old zeros full fits filled in
     let count : length (take used (drop 56 old)) ≡ used = omega (arith, length-take used (drop 56 old), length-drop 56 old) in
     ending
-    ∙ ap (λ (t : List ℕ). t ++ sha256 (t ++ drop 56 headed) ++ drop 56 headed) front
+    ∙ ap (λ (t : List ℕ). with_digest t (drop 56 headed)) front
     ∙ block_is kind volid number used (take used (drop 56 old)) (drop 56 headed) count back
 
 -- the front of what was written from byte `skip` on

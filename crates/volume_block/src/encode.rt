@@ -1,10 +1,9 @@
 //! Writes labels, marks and data blocks. None of these functions takes memory.
 
-ghost use Rattle.std.specs.Prelude.{◌≡◌, ◌≤◌, ◌++◌, ◌∷◌, [], ◌+◌, List, length, take, drop};
-ghost use Rattle.byteorder.specs.Endian.{big_bytes};
+ghost use Rattle.std.specs.Prelude.{◌≡◌, ◌≤◌, ◌++◌, ◌+◌, List, length, take, drop};
 ghost use Rattle.volume_block.specs.Layout.{block_text};
-ghost use Rattle.volume_block.specs.Chunks.{ChunkText, chunk_head, chunks_text};
-ghost use Rattle.volume_block.specs.Valid.{IsLabel, IsCount, AreChunks, HoldsChunks, ValidBlock, label_payload, label_text, mark_text};
+ghost use Rattle.volume_block.specs.Chunks.{ChunkText, chunk_head};
+ghost use Rattle.volume_block.specs.Valid.{IsLabel, IsCount, FillPayload, HoldsChunks, ValidBlock, label_fields, label_payload, label_text, mark_text};
 
 use crate::layout::{
     DATA_KIND, LABEL_FIELDS_SIZE, LABEL_KIND, MARK_KIND, MARK_USED, PAYLOAD_START,
@@ -41,7 +40,7 @@ fn write_label_payload(label: &Label, payload: &mut [u8])
 // Writes a label's payload up to the length of its pool.
 fn write_label_fields(label: &Label, payload: &mut [u8])
     requires { 17 ≤ length payload.old }
-    ensures { payload.new ≡ big_bytes 4 label.now.cart.0 ++ big_bytes 4 label.now.capacity ++ big_bytes 8 label.now.made.0 ++ (label.now.pool_length ∷ []) ++ drop 17 payload.old }
+    ensures { payload.new ≡ label_fields label.now ++ drop 17 payload.old }
 {
     BigEndian::write_u32(payload, label.cart.0);
     BigEndian::write_u32(&mut payload[4..], label.capacity);
@@ -62,16 +61,16 @@ pub fn encode_mark(volid: Volid, number: u64, count: u32, into: &mut [u8])
     seal(MARK_KIND, volid.0, number, MARK_USED, into);
 }
 
-/// Makes a data block of the chunks that fill the first `used` bytes of the payload, which stand in
-/// their place. The bytes behind them become zeros.
+/// Makes a data block of the chunks that stand in their place and fill the first `used` bytes of the
+/// payload. The bytes behind them become zeros.
 pub fn seal_data(volid: Volid, number: u64, used: u32, into: &mut [u8])
     requires volume { 1 ≤ volid.0 }
     requires place { 1 ≤ number }
     requires fits { used ≤ 4040 }
     requires whole { length into.old ≡ 4096 }
     ensures text { into.new ≡ block_text 0x44 volid.0 number (take used (drop 56 into.old)) }
-    ensures holds { (chunks : List ChunkText) → AreChunks chunks → take used (drop 56 into.old) ≡ chunks_text chunks → HoldsChunks into.new volid.0 number chunks }
-    ensures valid { (chunks : List ChunkText) → AreChunks chunks → take used (drop 56 into.old) ≡ chunks_text chunks → ValidBlock into.new volid.0 number (Block.Data used) }
+    ensures holds { (chunks : List ChunkText) → FillPayload chunks used into.old → HoldsChunks into.new volid.0 number chunks }
+    ensures valid { (chunks : List ChunkText) → FillPayload chunks used into.old → ValidBlock into.new volid.0 number (Block.Data used) }
 {
     seal(DATA_KIND, volid.0, number, used, into);
 }

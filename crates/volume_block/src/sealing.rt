@@ -1,8 +1,7 @@
 //! Makes a block where its payload stands: writes the zeros behind it, the head and the digest.
 
 ghost use Rattle.std.specs.Prelude.{◌≡◌, ◌≤◌, ◌++◌, length, take, drop};
-ghost use Rattle.sha2.specs.Sha256.{sha256};
-ghost use Rattle.volume_block.specs.Layout.{head_text, block_text};
+ghost use Rattle.volume_block.specs.Layout.{head_text, with_digest, block_text};
 
 use crate::layout::{FORM, HEAD_SIZE, PAYLOAD_START};
 use byteorder::{BigEndian, ByteOrder};
@@ -35,7 +34,7 @@ fn write_head(kind: u8, used: u32, volid: u64, number: u64, block: &mut [u8])
 // Writes the digest of the bytes before it and behind it, which are digested where they stand.
 fn write_digest(block: &mut [u8])
     requires { 56 ≤ length block.old }
-    ensures { block.new ≡ take 24 block.old ++ sha256 (take 24 block.old ++ drop 56 block.old) ++ drop 56 block.old }
+    ensures { block.new ≡ with_digest (take 24 block.old) (drop 56 block.old) }
 {
     let mut hasher = Sha256::new();
     hasher.update(&block[..HEAD_SIZE]);

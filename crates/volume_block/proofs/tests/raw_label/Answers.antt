@@ -19,6 +19,7 @@ returns c = record {
   capacity = search rules;
   made = search rules;
   pool_length = search rules;
+  room = refl;
   pool = raw_is_name;
   zeros = refl;
 }
