@@ -2,6 +2,8 @@
 //! journal, file 1 + c is cartridge c. docs/definitions.md says the disk model in words.
 #![tactic(auto)]
 
+mod gate;
 mod store;
 
+pub use gate::{write_gated, write_synced};
 pub use store::Store;
