@@ -29,6 +29,11 @@ chunk_text chunk = chunk_head chunk.ssid chunk.copy chunk.offset (length chunk.b
 abbrev pub chunks_text : List ChunkText → List ℕ
 chunks_text chunks = flat_map chunk_text chunks
 
+-- the chunks of several blocks, in order
+abbrev pub all_chunks : List (List ChunkText) → List ChunkText
+all_chunks [] = []
+all_chunks (chunks ∷ blocks) = chunks ++ all_chunks blocks
+
 -- The chunks, in their order, are those of one copy from this offset on, and join to these bytes.
 abbrev pub JoinFrom : ℕ → ℕ → ℕ → List ChunkText → List ℕ → Type 0
 JoinFrom ssid copy offset [] bytes = bytes ≡ []
