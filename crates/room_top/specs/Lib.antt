@@ -1,4 +1,5 @@
 pub mod Put
 pub mod Raw
+pub mod Run
 pub mod Stages
 pub mod Words

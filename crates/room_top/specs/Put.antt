@@ -34,4 +34,5 @@ IsOccupied disk = slice_index disk 0 ≡ 0x4C
 
 -- what `put` prints
 abbrev pub kept_line : ℕ → ℕ → List ℕ
-kept_line size cart = codes "kept " ++ decimal size ++ codes " bytes as file 1 of cart " ++ decimal cart ++ codes "\n"
+kept_line size cart =
+    codes "kept " ++ (decimal size ++ (codes " bytes as file 1 of cart " ++ (decimal cart ++ codes "\n")))
