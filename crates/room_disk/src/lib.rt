@@ -2,6 +2,13 @@
 //! journal, file 1 + c is cartridge c. docs/definitions.md says the disk model in words.
 #![tactic(auto)]
 
+mod deed;
+mod fault_counts;
+mod file_bytes;
+mod history;
+mod mem_file;
+mod mem_store;
 mod store;
 
+pub use mem_store::MemStore;
 pub use store::Store;

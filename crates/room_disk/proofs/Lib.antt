@@ -1,0 +1,4 @@
+pub mod Files
+pub mod Keeping
+pub mod Overlay
+pub mod Room
