@@ -2,3 +2,4 @@ pub mod Files
 pub mod Keeping
 pub mod Overlay
 pub mod Room
+pub mod Syncing

@@ -1,4 +1,4 @@
-ghost use Rattle.std.specs.Prelude.{◌≡◌, ◌⊎◌, ◌↔◌, ℕ, ◌+◌, ◌-◌, ◌<◌, ◌≤◌, ◌^◌, ◌∷◌, [], length, take, drop, min, IfOk, IsOk, OnOk, OnErr, IsTrue};
+ghost use Rattle.std.specs.Prelude.{◌≡◌, ◌⊎◌, ◌↔◌, ℕ, ◌+◌, ◌-◌, ◌<◌, ◌≤◌, ◌^◌, ◌∷◌, List, [], length, take, drop, min, IfOk, IsOk, OnOk, OnErr, IsTrue};
 ghost use Rattle.room_base.specs.Faults.{risen};
 ghost use Rattle.room_disk.specs.Crash.{overlaid, Torn, CutShort};
 ghost use Rattle.room_disk.specs.Disk.{IsDisk, Quiet, Others, Leaves, Images, Settled, FileCause};
@@ -97,6 +97,7 @@ impl MemStore {
         ensures done { OnOk done (self.new ≡ self.old) }
         ensures lacking { OnErr done (self.new ≡ record self.old {
             faults = one_more_fault file self.old.faults; short = risen self.old.short }) }
+        ensures past { self.new.past ≡ self.old.past }
         ensures risen { OnErr done (HasRisen file self.old.faults self.new.faults) }
         ensures same { IsOk result ↔ IsOk done }
     {
@@ -151,6 +152,12 @@ impl Store for MemStore {
     fn write_at(&mut self, file: u32, at: u64, bytes: &[u8]) -> Result<(), Failed>
         ensures fits { OnOk result (at + length bytes.now < 2 ^ 64) }
         ensures cause { FileCause file (told_store self.old) (told_store self.new) result }
+        ensures written { OnOk result
+            ((told_store self.new).reads file ≡ overlaid at bytes.now ((told_store self.old).reads file)) }
+        ensures others { Others file (told_store self.old) (told_store self.new) }
+        ensures torn { (after : List ℕ) → (told_store self.new).leaves file after
+            → (before : List ℕ) × (told_store self.old).leaves file before × Torn at bytes.now before after }
+        ensures moments { Leaves (told_store self.old) (told_store self.new) (Images (told_store self.new)) }
         ensures changes { Changes (IsToFail self.old ⊎ (2 ^ 64 ≤ at + length bytes.now)) file
             (record self.old.past { deeds = Written file at bytes.now ∷ self.old.past.deeds }) self.old self.new result }
     {
@@ -163,6 +170,8 @@ impl Store for MemStore {
 
     fn sync(&mut self, file: u32) -> Result<(), Failed>
         ensures cause { FileCause file (told_store self.old) (told_store self.new) result }
+        ensures quiet { Quiet (told_store self.old) (told_store self.new) }
+        ensures settled { OnOk result (Settled (told_store self.new) file) }
         ensures changes { Changes (IsToFail self.old) file
             (record self.old.past { deeds = Synced file ∷ self.old.past.deeds }) self.old self.new result }
     {
@@ -175,6 +184,12 @@ impl Store for MemStore {
 
     fn cut(&mut self, file: u32, to: u64) -> Result<(), Failed>
         ensures cause { FileCause file (told_store self.old) (told_store self.new) result }
+        ensures cut { OnOk result
+            ((told_store self.new).reads file ≡ take to ((told_store self.old).reads file)) }
+        ensures others { Others file (told_store self.old) (told_store self.new) }
+        ensures torn { (after : List ℕ) → (told_store self.new).leaves file after
+            → (before : List ℕ) × (told_store self.old).leaves file before × CutShort to before after }
+        ensures moments { Leaves (told_store self.old) (told_store self.new) (Images (told_store self.new)) }
         ensures changes { Changes (IsToFail self.old) file
             (record self.old.past { deeds = Cut file to ∷ self.old.past.deeds }) self.old self.new result }
     {
