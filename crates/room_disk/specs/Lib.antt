@@ -6,3 +6,4 @@ pub mod Kept
 pub mod Laws
 pub mod Memory
 pub mod Past
+pub mod Untold

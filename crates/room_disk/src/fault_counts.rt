@@ -1,7 +1,8 @@
-ghost use Rattle.std.specs.Prelude.{◌≡◌, ◌<◌, length};
-ghost use Rattle.room_disk.specs.Faults.{faults_on, no_faults, one_more_fault, HasRisen};
+ghost use Rattle.std.specs.Prelude.{◌≡◌, ◌≤◌, ℕ, OnErr};
+ghost use Rattle.room_base.specs.Faults.{Rose};
+ghost use Rattle.room_disk.specs.Faults.{faults_on, no_faults, one_more_fault, counts_after, HasRisen};
 
-use room_base::risen_count;
+use room_base::{Failed, risen_count};
 use std::marker::Model;
 
 /// The number of files that have a count of their own: the journal's two and 256 cartridges.
@@ -37,5 +38,16 @@ impl FaultCounts {
     {
         let count = &mut self.counts[(file as usize).min(FILES)];
         *count = risen_count(*count);
+    }
+
+    /// Counts one more fault of the file, where the answer is one.
+    pub fn count<T>(&mut self, file: u32, answer: &Result<T, Failed>)
+        ensures exact { self.new ≡ counts_after file answer.now self.old }
+        ensures later { (other : ℕ) → faults_on self.old other ≤ faults_on self.new other }
+        ensures rose { OnErr answer.now (Rose (faults_on self.old file) (faults_on self.new file)) }
+    {
+        if answer.is_err() {
+            self.rise(file);
+        }
     }
 }

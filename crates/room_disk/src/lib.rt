@@ -5,10 +5,12 @@
 mod deed;
 mod fault_counts;
 mod file_bytes;
+mod folder_store;
 mod history;
 mod mem_file;
 mod mem_store;
 mod store;
 
+pub use folder_store::FolderStore;
 pub use mem_store::MemStore;
 pub use store::Store;
