@@ -2,7 +2,8 @@
 use Rattle.std.proofs.Common.{◌≡◌, ◌≢◌, ◌⊎◌, ◌==◌, ℕ, zero, suc, ◌+◌, ◌-◌, ◌<◌, ◌≤◌, Bool, true, false, cond, if◌then◌else◌, List, [], ◌∷◌, ◌++◌, length, set, get_or, refl, sym, ap, subst, ◌∙◌, arith, inl, inr}
 use Rattle.std.proofs.lemmas.Bool.Decides.{eqb_tells, nat_tests}
 use Rattle.room_disk.specs.declared.mem_file.MemFile.{MemFile}
-use Rattle.room_disk.specs.Kept.{blank_file, file_of, with_bytes, first_bytes, IsFirst, NoneHas, HasSameFiles, HasGrown, HasGrownFiles, HasRoomBehind}
+use Rattle.room_disk.specs.Past.{listed}
+use Rattle.room_disk.specs.Kept.{blank_file, file_of, with_bytes, first_bytes, IsFirst, NoneHas, HasSameFiles, HasGrown, HasGrownFiles, HasRoomBehind, IsDistinct}
 
 pub if_same : {A : Type 0} (a b : ℕ) (x y : A) → a ≡ b → (if a == b then x else y) ≡ x
 if_same a b x y same = elim (eqb_tells a b) [ inl is ↦ rw is.0 refl | inr isnt ↦ absurd (isnt.1 same) ]
@@ -126,3 +127,75 @@ pub has_room : (file index room : ℕ) (files : List MemFile) (one : MemFile) �
     → room ≤ (file_of file files).now.room → room ≤ one.now.room
 has_room file index room files one is value enough =
     let P : MemFile → Type 0 = λ f. room ≤ f.now.room in subst P (sym (room_at file index files one is value)) enough
+
+none_set : (number : ℕ) (files : List MemFile) (place : ℕ) (new : MemFile) → ((other : MemFile) → new.number ≡ (get_or files place other).number)
+    → NoneHas number files → (index : ℕ) (other : MemFile) → index < length (set files place new) → (get_or (set files place new) index other).number ≢ number
+none_set number [] place new same none index other below = absurd (omega (arith, below))
+none_set number (one ∷ rest) zero new same none zero other below = λ is. none zero other (omega (arith, below)) (sym (same other) ∙ is)
+none_set number (one ∷ rest) zero new same none (suc index) other below = none (suc index) other (omega (arith, below))
+none_set number (one ∷ rest) (suc place) new same none zero other below = none zero other (omega arith)
+none_set number (one ∷ rest) (suc place) new same none (suc index) other below =
+    none_set number rest place new same (λ k o b. none (suc k) o (omega (arith, b))) index other (omega (arith, below))
+
+pub distinct_set : (files : List MemFile) (place : ℕ) (new : MemFile) → ((other : MemFile) → new.number ≡ (get_or files place other).number)
+    → IsDistinct files → IsDistinct (set files place new)
+distinct_set [] place new same distinct = tt
+distinct_set (one ∷ rest) zero new same distinct =
+    ((λ index other below is. distinct.0 index other below (is ∙ same one)), distinct.1)
+distinct_set (one ∷ rest) (suc place) new same distinct =
+    (none_set one.number rest place new same distinct.0, distinct_set rest place new same distinct.1)
+
+none_push : (number added : ℕ) (files : List MemFile) → added ≢ number → NoneHas number files
+    → (index : ℕ) (other : MemFile) → index < length (files ++ blank_file added ∷ []) → (get_or (files ++ blank_file added ∷ []) index other).number ≢ number
+none_push number added [] apart none zero other below = apart
+none_push number added [] apart none (suc index) other below = absurd (omega (arith, below))
+none_push number added (one ∷ rest) apart none zero other below = none zero other (omega arith)
+none_push number added (one ∷ rest) apart none (suc index) other below =
+    none_push number added rest apart (λ k o b. none (suc k) o (omega (arith, b))) index other (omega (arith, below))
+
+pub distinct_push : (added : ℕ) (files : List MemFile) → NoneHas added files → IsDistinct files → IsDistinct (files ++ blank_file added ∷ [])
+distinct_push added [] none distinct = ((λ index other below. absurd (omega (arith, below))), tt)
+distinct_push added (one ∷ rest) none distinct =
+    (none_push one.number added rest (λ is. none zero one (omega arith) (sym is)) distinct.0,
+     distinct_push added rest (λ index other below. none (suc index) other (omega (arith, below))) distinct.1)
+
+pub first_at : (files : List MemFile) (index : ℕ) (one : MemFile) → IsDistinct files → index < length files
+    → one ≡ get_or files index one → file_of one.number files ≡ one
+first_at [] index one distinct below value = absurd (omega (arith, below))
+first_at (head ∷ rest) zero one distinct below value =
+    if_same head.number one.number head (file_of one.number rest) (ap (λ (f : MemFile). f.number) (sym value)) ∙ sym value
+first_at (head ∷ rest) (suc index) one distinct below value =
+    if_other head.number one.number head (file_of one.number rest)
+      (λ is. distinct.0 index one (omega (arith, below)) (ap (λ (f : MemFile). f.number) (sym value) ∙ sym is))
+    ∙ first_at rest index one distinct.1 (omega (arith, below)) value
+
+here_listed : (number file : ℕ) (bytes : List ℕ) (rest : List (ℕ × List ℕ)) → number ≡ file → listed rest file ≡ []
+    → listed (with_bytes number bytes rest) file ≡ bytes
+here_listed number file [] rest is none = none
+here_listed number file (byte ∷ bytes) rest is none = if_same number file (byte ∷ bytes) (listed rest file) is
+
+elsewhere_listed : (number file : ℕ) (bytes : List ℕ) (rest : List (ℕ × List ℕ)) → number ≢ file
+    → listed (with_bytes number bytes rest) file ≡ listed rest file
+elsewhere_listed number file [] rest apart = refl
+elsewhere_listed number file (byte ∷ bytes) rest apart = if_other number file (byte ∷ bytes) (listed rest file) apart
+
+pub listed_first : (files : List MemFile) (file : ℕ) → IsDistinct files → listed (first_bytes files) file ≡ (file_of file files).first.bytes
+listed_first [] file distinct = refl
+listed_first (one ∷ rest) file distinct =
+    elim (eqb_tells one.number file) [
+        inl is ↦
+          (let none : NoneHas file rest = (let P : ℕ → Type 0 = λ n. NoneHas n rest in subst P is.1 distinct.0) in
+           let ends : listed (first_bytes rest) file ≡ [] =
+             listed_first rest file distinct.1 ∙ ap (λ (f : MemFile). f.first.bytes) (file_none file rest none) in
+           here_listed one.number file one.first.bytes (first_bytes rest) is.1 ends)
+          ∙ ap (λ (f : MemFile). f.first.bytes) (sym (if_same one.number file one (file_of file rest) is.1))
+      | inr isnt ↦
+          elsewhere_listed one.number file one.first.bytes (first_bytes rest) isnt.1
+          ∙ listed_first rest file distinct.1
+          ∙ ap (λ (f : MemFile). f.first.bytes) (sym (if_other one.number file one (file_of file rest) isnt.1)) ]
+
+pub distinct_grown : (files : List MemFile) (file index : ℕ) (before after : MemFile) → IsFirst file files index
+    → before ≡ get_or files index before → HasGrown before after → IsDistinct files → IsDistinct (set files index after)
+distinct_grown files file index before after is value has distinct =
+    distinct_set files index after
+      (λ other. has.number ∙ ap (λ (f : MemFile). f.number) value ∙ is.number before ∙ sym (is.number other)) distinct

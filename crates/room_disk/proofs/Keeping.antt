@@ -9,8 +9,8 @@ use Rattle.room_disk.specs.Disk.{Image}
 use Rattle.room_disk.specs.Held.{Held, blank}
 use Rattle.room_disk.specs.Crash.{overlaid}
 use Rattle.room_disk.specs.Past.{listed, read_after}
-use Rattle.room_disk.specs.Kept.{blank_file, file_of, first_bytes, Fits, IsKept, AreKept, IsFirst, NoneHas, HasGrown, HasGrownFiles}
-use Rattle.room_disk.proofs.Files.{if_same, if_other, file_at, file_none, file_set, file_set_other, first_set}
+use Rattle.room_disk.specs.Kept.{blank_file, file_of, first_bytes, Fits, IsKept, AreKept, IsFirst, NoneHas, HasGrown, HasGrownFiles, IsDistinct, IsKeptWhole}
+use Rattle.room_disk.proofs.Files.{if_same, if_other, file_at, file_none, file_set, file_set_other, first_set, distinct_set}
 
 fits_more : (room more file : ℕ) (deeds : List Deed) → room ≤ more → Fits room file deeds → Fits more file deeds
 fits_more room more file [] le fits = tt
@@ -121,6 +121,13 @@ module _ (old new : List Deed) (files : List MemFile) (file index : ℕ) (before
       let P : List (ℕ × List ℕ) → Type 0 = λ base. AreKept base new (set files index after) in
       subst P (sym keeps_first) (put_in (first_bytes files) old new files file index after are first (this kept_before) others)
 
+  pub keeps_whole : IsDistinct files
+      → ((other : ℕ) (kept : MemFile) → other ≢ file → IsKept (listed (first_bytes files)) old other kept → IsKept (listed (first_bytes files)) new other kept)
+      → IsKeptWhole (first_bytes (set files index after)) new (set files index after)
+  keeps_whole distinct others = record {
+    each = keeps_all others;
+    distinct = distinct_set files index after (λ other. (this kept_before).number ∙ sym (first.number other)) distinct }
+
 pub cut_blank : (base : List (ℕ × List ℕ)) (deeds : List Deed) (files : List MemFile) (file to : ℕ) → AreKept base deeds files
     → NoneHas file files → AreKept base (Cut file to ∷ deeds) files
 cut_blank base deeds files file to are none other =
@@ -137,14 +144,14 @@ cut_blank base deeds files file to are none other =
 
 -- a file is written in its room, and the write recorded
 pub write_kept : (deeds : List Deed) (files : List MemFile) (file index at : ℕ) (piece : List ℕ) (before : MemFile) (now : Held)
-    → AreKept (first_bytes files) deeds files → IsFirst file files index → before ≡ get_or files index before
+    → IsKeptWhole (first_bytes files) deeds files → IsFirst file files index → before ≡ get_or files index before
     → at + length piece ≤ before.now.room → now.bytes ≡ overlaid at piece before.now.bytes → now.room ≡ before.now.room
     → let after : List MemFile = set files index (record before { now = now }) in
-      (first_bytes after ≡ first_bytes files) × AreKept (first_bytes after) (Written file at piece ∷ deeds) after
-write_kept deeds files file index at piece before now are first value enough bytes room =
+      (first_bytes after ≡ first_bytes files) × IsKeptWhole (first_bytes after) (Written file at piece ∷ deeds) after
+write_kept deeds files file index at piece before now whole first value enough bytes room =
     let this = λ (is : IsKept (listed (first_bytes files)) deeds file before).
         written_here (listed (first_bytes files)) deeds file at piece before now is enough bytes room in
     let new = Written file at piece ∷ deeds in
-    (keeps_first deeds new files file index before (record before { now = now }) are first value this,
-     keeps_all deeds new files file index before (record before { now = now }) are first value this
+    (keeps_first deeds new files file index before (record before { now = now }) whole.each first value this,
+     keeps_whole deeds new files file index before (record before { now = now }) whole.each first value this whole.distinct
        (λ other one apart is. written_elsewhere (listed (first_bytes files)) deeds file other at piece one apart is))

@@ -45,6 +45,20 @@ pub record IsKept (base : Image) (deeds : List Deed) (file : ℕ) (kept : MemFil
 abbrev pub AreKept : List (ℕ × List ℕ) → List Deed → List MemFile → Type 0
 AreKept first deeds files = (file : ℕ) → IsKept (listed first) deeds file (file_of file files)
 
+-- no file has the number
+abbrev pub NoneHas : ℕ → List MemFile → Type 0
+NoneHas number files = (index : ℕ) (other : MemFile) → index < length files → (slice_index_or files index other).number ≢ number
+
+-- no two files have one number
+abbrev pub IsDistinct : List MemFile → Type 0
+IsDistinct [] = Unit {0}
+IsDistinct (one ∷ rest) = NoneHas one.number rest × IsDistinct rest
+
+-- how a store in memory keeps its files
+pub record IsKeptWhole (first : List (ℕ × List ℕ)) (deeds : List Deed) (files : List MemFile) : Type 0 where
+  pub each : AreKept first deeds files
+  pub distinct : IsDistinct files
+
 -- the file reads as before, and has no less room
 pub record HasGrown (old new : MemFile) : Type 0 where
   pub number : new.number ≡ old.number
@@ -58,10 +72,6 @@ pub record IsFirst (file : ℕ) (files : List MemFile) (index : ℕ) : Type 0 wh
   pub below : index < length files
   pub number : (other : MemFile) → (slice_index_or files index other).number ≡ file
   pub before : (earlier : ℕ) (other : MemFile) → earlier < index → (slice_index_or files earlier other).number ≢ file
-
--- no file has the number
-abbrev pub NoneHas : ℕ → List MemFile → Type 0
-NoneHas number files = (index : ℕ) (other : MemFile) → index < length files → (slice_index_or files index other).number ≢ number
 
 -- the same files under each number, which read the same at first
 pub record HasSameFiles (old new : List MemFile) : Type 0 where

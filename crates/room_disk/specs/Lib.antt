@@ -1,3 +1,4 @@
+pub mod Blank
 pub mod Crash
 pub mod Disk
 pub mod Faults

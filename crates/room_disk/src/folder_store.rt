@@ -1,5 +1,6 @@
-ghost use Rattle.std.specs.Prelude.{◌≡◌, ◌+◌, ◌<◌, ◌≤◌, ◌^◌, length, drop, IfOk, OnOk};
-ghost use Rattle.room_disk.specs.Faults.{counts_after, no_faults, HasRisen};
+ghost use Rattle.std.specs.Prelude.{◌≡◌, ℕ, ◌+◌, ◌<◌, ◌≤◌, ◌^◌, length, drop, IfOk, OnOk, OnErr};
+ghost use Rattle.room_base.specs.Faults.{Rose};
+ghost use Rattle.room_disk.specs.Faults.{counts_after, faults_on, no_faults};
 
 use crate::Store;
 use crate::fault_counts::FaultCounts;
@@ -9,6 +10,7 @@ use std::collections::BTreeMap;
 use std::fs::{File, OpenOptions};
 use std::io::ErrorKind;
 use std::os::unix::fs::FileExt;
+use std::marker::Model;
 use std::rt::Files;
 
 /// How often a read that was interrupted by a signal is tried again.
@@ -35,10 +37,18 @@ pub struct FolderStore<R: Files<File = File>> {
     faults: FaultCounts,
 }
 
+impl<R: Files<File = File>> Model for FolderStore<R> {
+    ghost use Rattle.std.specs.Prelude.{List, ℕ};
+
+    ghost Value = { List ℕ };
+
+    ghost view = { λ store. store.faults };
+}
+
 impl<R: Files<File = File>> FolderStore<R> {
     /// Makes no call on the disk. The folder itself is never made.
     pub fn new(rt: R, alloc: Global, folder: Name) -> FolderStore<R>
-        ensures { result.faults ≡ no_faults }
+        ensures { result ≡ no_faults }
     {
         FolderStore {
             rt,
@@ -52,7 +62,7 @@ impl<R: Files<File = File>> FolderStore<R> {
 
     // Opens the file, unless it is open. Where it isn't there, it is made if that is asked for.
     fn open(&mut self, file: u32, makes: bool) -> Result<(), Failed>
-        ensures { self.new.faults ≡ self.old.faults }
+        ensures { self.new ≡ self.old }
     {
         if self.opened.contains_key(&file) {
             return Ok(());
@@ -77,7 +87,7 @@ impl<R: Files<File = File>> FolderStore<R> {
     }
 
     fn keep(&mut self, file: u32, opened: File) -> Result<(), Failed>
-        ensures { self.new.faults ≡ self.old.faults }
+        ensures { self.new ≡ self.old }
     {
         match self.opened.insert(file, opened) {
             Ok(_) => Ok(()),
@@ -103,7 +113,7 @@ impl<R: Files<File = File>> FolderStore<R> {
 
     // Syncs the folder, if a name in it may not be on the disk.
     fn sync_names(&mut self) -> Result<(), Failed>
-        ensures { self.new.faults ≡ self.old.faults }
+        ensures { self.new ≡ self.old }
     {
         if self.named {
             return Ok(());
@@ -117,8 +127,16 @@ impl<R: Files<File = File>> FolderStore<R> {
         }
     }
 
+    fn count<T>(&mut self, file: u32, answer: &Result<T, Failed>)
+        ensures exact { self.new ≡ counts_after file answer.now self.old }
+        ensures later { (other : ℕ) → faults_on self.old other ≤ faults_on self.new other }
+        ensures rose { OnErr answer.now (Rose (faults_on self.old file) (faults_on self.new file)) }
+    {
+        self.faults.count(file, answer);
+    }
+
     fn find_len(&mut self, file: u32) -> Result<u64, Failed>
-        ensures { self.new.faults ≡ self.old.faults }
+        ensures { self.new ≡ self.old }
     {
         self.open(file, false)?;
         match self.opened.get(&file) {
@@ -128,7 +146,7 @@ impl<R: Files<File = File>> FolderStore<R> {
     }
 
     fn find_and_read(&mut self, file: u32, at: u64, into: &mut [u8]) -> Result<u64, Failed>
-        ensures faults { self.new.faults ≡ self.old.faults }
+        ensures faults { self.new ≡ self.old }
         ensures within { IfOk result (λ count. count ≤ length into.old) }
         ensures rest { IfOk result (λ count. drop count into.new ≡ drop count into.old) }
     {
@@ -140,7 +158,7 @@ impl<R: Files<File = File>> FolderStore<R> {
     }
 
     fn find_and_write(&mut self, file: u32, at: u64, bytes: &[u8]) -> Result<(), Failed>
-        ensures faults { self.new.faults ≡ self.old.faults }
+        ensures faults { self.new ≡ self.old }
         ensures fits { OnOk result (at + length bytes.now < 2 ^ 64) }
     {
         match at.checked_add(bytes.len() as u64) {
@@ -155,7 +173,7 @@ impl<R: Files<File = File>> FolderStore<R> {
     }
 
     fn find_and_sync(&mut self, file: u32) -> Result<(), Failed>
-        ensures { self.new.faults ≡ self.old.faults }
+        ensures { self.new ≡ self.old }
     {
         self.open(file, false)?;
         match self.opened.get(&file) {
@@ -166,7 +184,7 @@ impl<R: Files<File = File>> FolderStore<R> {
     }
 
     fn find_and_cut(&mut self, file: u32, to: u64) -> Result<(), Failed>
-        ensures { self.new.faults ≡ self.old.faults }
+        ensures { self.new ≡ self.old }
     {
         self.open(file, false)?;
         match self.opened.get(&file) {
@@ -177,40 +195,39 @@ impl<R: Files<File = File>> FolderStore<R> {
 }
 
 impl<R: Files<File = File>> Store for FolderStore<R> {
-    ghost use Rattle.room_disk.specs.Faults.{faults_on};
     ghost use Rattle.room_disk.specs.Untold.{untold_disk, untold_is_disk};
 
-    ghost view = { λ store. untold_disk (faults_on store.faults) };
+    ghost view = { λ store. untold_disk (faults_on store) };
 
-    ghost is_disk = { λ store. untold_is_disk (faults_on store.faults) };
+    ghost is_disk = { λ store. untold_is_disk (faults_on store) };
 
     fn len(&mut self, file: u32) -> Result<u64, Failed> {
         let answer = self.find_len(file);
-        self.faults.count(file, &answer);
+        self.count(file, &answer);
         answer
     }
 
     fn read_at(&mut self, file: u32, at: u64, into: &mut [u8]) -> Result<u64, Failed> {
         let answer = self.find_and_read(file, at, into);
-        self.faults.count(file, &answer);
+        self.count(file, &answer);
         answer
     }
 
     fn write_at(&mut self, file: u32, at: u64, bytes: &[u8]) -> Result<(), Failed> {
         let answer = self.find_and_write(file, at, bytes);
-        self.faults.count(file, &answer);
+        self.count(file, &answer);
         answer
     }
 
     fn sync(&mut self, file: u32) -> Result<(), Failed> {
         let answer = self.find_and_sync(file);
-        self.faults.count(file, &answer);
+        self.count(file, &answer);
         answer
     }
 
     fn cut(&mut self, file: u32, to: u64) -> Result<(), Failed> {
         let answer = self.find_and_cut(file, to);
-        self.faults.count(file, &answer);
+        self.count(file, &answer);
         answer
     }
 }

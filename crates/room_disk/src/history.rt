@@ -20,7 +20,7 @@ pub struct History {
 impl Model for History {
     ghost use Rattle.std.specs.Prelude.{reverse};
     ghost use Rattle.room_disk.specs.Past.{Past};
-    ghost use Rattle.room_disk.specs.Kept.{AreKept, first_bytes};
+    ghost use Rattle.room_disk.specs.Kept.{IsKeptWhole, first_bytes};
 
     ghost Value = { Past };
 
@@ -30,7 +30,7 @@ impl Model for History {
     } };
 
     ghost invariant = { λ history.
-        AreKept (first_bytes history.files.items) (reverse history.deeds.items) history.files.items };
+        IsKeptWhole (first_bytes history.files.items) (reverse history.deeds.items) history.files.items };
 }
 
 impl History {

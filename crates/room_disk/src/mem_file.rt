@@ -1,5 +1,5 @@
 ghost use Rattle.std.specs.Prelude.{◌≡◌, ◌≤◌, IfOk, OnOk, MatchOption};
-ghost use Rattle.room_disk.specs.Kept.{blank_file, file_of, HasGrown, HasGrownFiles, HasRoomBehind, HasSameFiles, IsFirst, NoneHas};
+ghost use Rattle.room_disk.specs.Kept.{blank_file, file_of, HasGrown, HasGrownFiles, HasRoomBehind, HasSameFiles, IsDistinct, IsFirst, NoneHas};
 
 use crate::file_bytes::FileBytes;
 use room_base::Memory;
@@ -51,6 +51,7 @@ pub fn position(files: &[MemFile], number: u32) -> Option<usize>
 /// The index of the file with this number, which is made where there is none.
 pub fn slot(alloc: Global, files: &mut Vec<MemFile>, number: u32) -> Result<usize, Memory>
     ensures same { HasSameFiles files.old.items files.new.items }
+    ensures distinct { IsDistinct files.old.items → IsDistinct files.new.items }
     ensures found { IfOk result (λ index. IsFirst number files.new.items index) }
 {
     if let Some(index) = position(files, number) {
@@ -69,6 +70,7 @@ pub fn make_room(
 ) -> Result<usize, Memory>
     requires { HasRoomBehind files.old.items }
     ensures grown { HasGrownFiles files.old.items files.new.items }
+    ensures distinct { IsDistinct files.old.items → IsDistinct files.new.items }
     ensures found { IfOk result (λ index. IsFirst number files.new.items index) }
     ensures room { OnOk result (room ≤ (file_of number files.new.items).now.room) }
 {

@@ -1,9 +1,10 @@
 ghost use Rattle.std.specs.Prelude.{◌≡◌, ◌⊎◌, ◌↔◌, ℕ, ◌+◌, ◌-◌, ◌<◌, ◌≤◌, ◌^◌, ◌∷◌, List, [], length, take, drop, min, IfOk, IsOk, OnOk, OnErr, IsTrue};
 ghost use Rattle.room_base.specs.Faults.{risen};
+ghost use Rattle.room_disk.specs.Blank.{IsBlank};
 ghost use Rattle.room_disk.specs.Crash.{overlaid, Torn, CutShort};
 ghost use Rattle.room_disk.specs.Disk.{IsDisk, Quiet, Others, Leaves, Images, Settled, FileCause};
 ghost use Rattle.room_disk.specs.Faults.{one_more_fault, no_faults, HasRisen};
-ghost use Rattle.room_disk.specs.Memory.{IsToFail, counted, Looks, Changes};
+ghost use Rattle.room_disk.specs.Memory.{IsToFail, counted, told_store, Looks, Changes};
 ghost use Rattle.room_disk.specs.Past.{listed};
 ghost use Rattle.room_disk.specs.declared.deed.Deed.TheVariants.{Written, Cut, Synced};
 
@@ -43,13 +44,14 @@ impl MemStore {
     /// A blank disk. `failing` holds the numbers of the calls that are to fail, counted from 1. With
     /// `stop`, every call after so many fails.
     pub fn new(alloc: Global, failing: Vec<u64>, stop: Option<u64>) -> MemStore
-        ensures { result ≡ record {
+        ensures new { result ≡ record {
             past = record { first = []; deeds = [] };
             calls = record { failing = failing.items; made = 0 };
             left = stop;
             faults = no_faults;
             short = 0
         } }
+        ensures blank { IsBlank (told_store result) }
     {
         MemStore {
             past: History::new(alloc),
@@ -112,7 +114,6 @@ impl MemStore {
 }
 
 impl Store for MemStore {
-    ghost use Rattle.room_disk.specs.Memory.{told_store};
     ghost use Rattle.room_disk.specs.Laws.{past_is_disk};
     ghost use Rattle.room_disk.specs.Faults.{faults_on};
 

@@ -1,6 +1,6 @@
 use Rattle.std.proofs.Common.{◌≤◌, ℕ, sym, subst}
 use Rattle.room_disk.specs.declared.mem_file.MemFile.{MemFile}
-use Rattle.room_disk.proofs.Files.{grown_set, found_room, set_room}
+use Rattle.room_disk.proofs.Files.{grown_set, found_room, set_room, distinct_grown}
 use Rattle.room_disk.proofs.mem_file.make_room.Goals as goal
 
 pub grow-requires : goal.grow-requires
@@ -22,3 +22,13 @@ pub returns-clause-room : goal.returns-clause-room
 returns-clause-room c =
     set_room c.slot.new.files.items c.args.number c.in_ok-index.index c.args.room c.index_mut-file.result.now c.grow.new.self
     c.in_ok-index.ensures.found c.index_mut-file.ensures.value c.grow.ensures.grown c.in_ok-grow.ensures.room
+
+pub returns-in_err-grow-clause-distinct : goal.returns-in_err-grow-clause-distinct
+returns-in_err-grow-clause-distinct c distinct =
+    distinct_grown c.slot.new.files.items c.args.number c.in_ok-index.index c.index_mut-file.result.now c.grow.new.self
+    c.in_ok-index.ensures.found c.index_mut-file.ensures.value c.grow.ensures.grown (c.in_ok-index.ensures.distinct distinct)
+
+pub returns-clause-distinct : goal.returns-clause-distinct
+returns-clause-distinct c distinct =
+    distinct_grown c.slot.new.files.items c.args.number c.in_ok-index.index c.index_mut-file.result.now c.grow.new.self
+    c.in_ok-index.ensures.found c.index_mut-file.ensures.value c.grow.ensures.grown (c.in_ok-index.ensures.distinct distinct)

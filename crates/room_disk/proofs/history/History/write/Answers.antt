@@ -4,17 +4,17 @@ use Rattle.room_disk.specs.declared.deed.Deed.{Deed}
 use Rattle.room_disk.specs.declared.deed.Deed.TheVariants.{Written}
 use Rattle.room_disk.specs.declared.mem_file.MemFile.{MemFile}
 use Rattle.room_disk.specs.Past.{listed}
-use Rattle.room_disk.specs.Kept.{first_bytes, AreKept, IsKept}
+use Rattle.room_disk.specs.Kept.{first_bytes, IsKeptWhole}
 use Rattle.room_disk.proofs.Files.{has_room}
 use Rattle.room_disk.proofs.Keeping.{write_kept, grown_kept}
 use Rattle.room_disk.proofs.history.History.write.Goals as goal
 
 pub invariant_of-self : goal.invariant_of-self
-invariant_of-self c = grown_kept c.self.inside.files.items c.make_room.new.files.items (reverse c.self.inside.deeds.items) c.make_room.ensures.grown c.self.invariant
+invariant_of-self c = record { each = grown_kept c.self.inside.files.items c.make_room.new.files.items (reverse c.self.inside.deeds.items) c.make_room.ensures.grown c.self.invariant.each; distinct = c.make_room.ensures.distinct c.self.invariant.distinct }
 
 pub invariant_of-self-in_err-push : goal.invariant_of-self-in_err-push
 invariant_of-self-in_err-push c =
-    rw c.in_err-push.ensures.items (grown_kept c.self.inside.files.items c.make_room.new.files.items (reverse c.self.inside.deeds.items) c.make_room.ensures.grown c.self.invariant)
+    rw c.in_err-push.ensures.items (record { each = grown_kept c.self.inside.files.items c.make_room.new.files.items (reverse c.self.inside.deeds.items) c.make_room.ensures.grown c.self.invariant.each; distinct = c.make_room.ensures.distinct c.self.invariant.distinct })
 
 pub overlay-requires : goal.overlay-requires
 overlay-requires c =
@@ -25,7 +25,9 @@ pub invariant_of-self-2 : goal.invariant_of-self-2
 invariant_of-self-2 c =
     let deeds = reverse c.self.inside.deeds.items in
     let files = c.make_room.new.files.items in
-    let kept : AreKept (first_bytes files) deeds files = grown_kept c.self.inside.files.items files deeds c.make_room.ensures.grown c.self.invariant in
+    let kept : IsKeptWhole (first_bytes files) deeds files = record {
+        each = grown_kept c.self.inside.files.items files deeds c.make_room.ensures.grown c.self.invariant.each;
+        distinct = c.make_room.ensures.distinct c.self.invariant.distinct } in
     let enough = has_room c.args.file c.in_ok-index.index (c.args.at + length c.args.bytes.now) files c.index_mut-kept.result.now
       c.in_ok-index.ensures.found c.index_mut-kept.ensures.value c.in_ok-index.ensures.room in
     let piece : c.of-piece.result ≡ c.args.bytes.now = c.of-piece.ensures ∙ c.in_ok-from_slice.ensures.items in
@@ -39,7 +41,9 @@ pub returns-clause-done : goal.returns-clause-done
 returns-clause-done c =
     let deeds = reverse c.self.inside.deeds.items in
     let files = c.make_room.new.files.items in
-    let kept : AreKept (first_bytes files) deeds files = grown_kept c.self.inside.files.items files deeds c.make_room.ensures.grown c.self.invariant in
+    let kept : IsKeptWhole (first_bytes files) deeds files = record {
+        each = grown_kept c.self.inside.files.items files deeds c.make_room.ensures.grown c.self.invariant.each;
+        distinct = c.make_room.ensures.distinct c.self.invariant.distinct } in
     let enough = has_room c.args.file c.in_ok-index.index (c.args.at + length c.args.bytes.now) files c.index_mut-kept.result.now
       c.in_ok-index.ensures.found c.index_mut-kept.ensures.value c.in_ok-index.ensures.room in
     let piece : c.of-piece.result ≡ c.args.bytes.now = c.of-piece.ensures ∙ c.in_ok-from_slice.ensures.items in
