@@ -37,3 +37,17 @@ written held mid piece new len at within room front back is =
     ∙ front_of (take at mid ++ piece) (drop end held) end (max len end) start (omega arith)
     ∙ ap (λ (l : List ℕ). take at mid ++ piece ++ l) (cut_back held len end within room)
     ∙ ap (λ (l : List ℕ). l ++ piece ++ drop end (take len held)) (front ∙ ap (λ (n : ℕ). take at (take len held) ++ replicate (at - n) 0) (sym size))
+
+-- the same for a range that is filled
+pub spoiled : (held mid new : List ℕ) (len at count byte : ℕ) → len ≤ length held → at + count ≤ length held
+    → take at mid ≡ take at (take len held) ++ replicate (at - len) 0 → drop at mid ≡ drop at held
+    → new ≡ take at mid ++ replicate (at + count - at) byte ++ drop (at + count) mid
+    → take (max len (at + count)) new ≡ overlaid at (replicate count byte) (take len held)
+spoiled held mid new len at count byte within room front back is =
+    let size : length (replicate count byte) ≡ count = length-replicate count byte in
+    let same : at + count - at ≡ count = omega arith in
+    let filled : new ≡ take at mid ++ replicate count byte ++ drop (at + length (replicate count byte)) mid =
+        is ∙ ap (λ (n : ℕ). take at mid ++ replicate n byte ++ drop (at + count) mid) same
+        ∙ ap (λ (n : ℕ). take at mid ++ replicate count byte ++ drop (at + n) mid) (sym size) in
+    ap (λ (n : ℕ). take (max len (at + n)) new) (sym size)
+    ∙ written held mid (replicate count byte) new len at within (omega (arith, size)) front back filled

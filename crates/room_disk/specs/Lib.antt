@@ -1,5 +1,6 @@
 pub mod Blank
 pub mod Crash
+pub mod Crashed
 pub mod Disk
 pub mod Faults
 pub mod Held
@@ -7,4 +8,5 @@ pub mod Kept
 pub mod Laws
 pub mod Memory
 pub mod Past
+pub mod Rebuilding
 pub mod Untold

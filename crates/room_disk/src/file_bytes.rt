@@ -6,6 +6,9 @@ use room_base::Memory;
 use std::alloc::Global;
 use std::marker::Model;
 
+/// What a crash may leave where bytes were not synced: no letter that opens a region.
+const SPOILED: u8 = 0xFF;
+
 /// A file's bytes. They stand at the front of room that is never given back, so that only `grow` takes
 /// memory.
 #[derive(Debug, Drop)]
@@ -36,7 +39,8 @@ impl FileBytes {
     }
 
     pub fn as_slice(&self) -> &[u8]
-        ensures { result.now ≡ self.now.bytes }
+        ensures value { result.now ≡ self.now.bytes }
+        ensures held { length self.now.bytes ≤ self.now.room }
     {
         &self.held[..self.len]
     }
@@ -61,6 +65,35 @@ impl FileBytes {
         self.len = overlay(&mut self.held, self.len, at, piece);
     }
 
+    /// Fills a range with 0xFF. Where that is past the end, zeros come between.
+    pub fn spoil(&mut self, at: usize, count: usize)
+        requires { at + count ≤ self.old.room }
+        ensures bytes { self.new.bytes ≡ overlaid at (replicate count 0xFF) self.old.bytes }
+        ensures room { self.new.room ≡ self.old.room }
+    {
+        self.len = spoil(&mut self.held, self.len, at, count);
+    }
+
+    /// Fills what stands from `to` on with 0xFF.
+    pub fn spoil_end(&mut self, to: usize)
+        ensures bytes { self.new.bytes ≡ take to self.old.bytes ++ replicate (length self.old.bytes - to) 0xFF }
+        ensures room { self.new.room ≡ self.old.room }
+    {
+        if to < self.len {
+            fill(&mut self.held, to, self.len, SPOILED);
+        }
+    }
+
+    /// Puts other bytes in the place of all.
+    pub fn replace(&mut self, bytes: &[u8])
+        requires { length bytes.now ≤ self.old.room }
+        ensures bytes { self.new.bytes ≡ bytes.now }
+        ensures room { self.new.room ≡ self.old.room }
+    {
+        put(&mut self.held, 0, bytes);
+        self.len = bytes.len();
+    }
+
     /// Cuts the file to the length, if it is longer.
     pub fn cut(&mut self, to: usize)
         ensures bytes { self.new.bytes ≡ take to self.old.bytes }
@@ -81,6 +114,19 @@ fn overlay(held: &mut [u8], len: usize, at: usize, piece: &[u8]) -> usize
     pad(held, len, at);
     put(held, at, piece);
     len.max(at + piece.len())
+}
+
+// Fills a range over the first `len` bytes with 0xFF, and answers how many there are then.
+#[tactic(auto, using(crate::proofs::Room::spoiled))]
+fn spoil(held: &mut [u8], len: usize, at: usize, count: usize) -> usize
+    requires file { len ≤ length held.old }
+    requires room { at + count ≤ length held.old }
+    ensures length { result ≡ max len (at + count) }
+    ensures bytes { take result held.new ≡ overlaid at (replicate count 0xFF) (take len held.old) }
+{
+    pad(held, len, at);
+    fill(held, at, at + count, SPOILED);
+    len.max(at + count)
 }
 
 // Zeros from the end of the first `len` bytes to `at`, where that is behind it.

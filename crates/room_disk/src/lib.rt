@@ -9,6 +9,8 @@ mod folder_store;
 mod history;
 mod mem_file;
 mod mem_store;
+mod part;
+mod rebuilding;
 mod store;
 
 pub use folder_store::FolderStore;
