@@ -19,7 +19,7 @@ reverse_more deeds index deed below is =
     ∙ reverse-append (take index deeds) (get_or deeds index deed ∷ [])
     ∙ ap (λ (d : Deed). d ∷ reverse (take index deeds)) (sym is)
 
-fits_append : (room file : ℕ) (xs ys : List Deed) → Fits room file (xs ++ ys) → Fits room file xs × Fits room file ys
+pub fits_append : (room file : ℕ) (xs ys : List Deed) → Fits room file (xs ++ ys) → Fits room file xs × Fits room file ys
 fits_append room file [] ys fits = (tt, fits)
 fits_append room file (Written other at bytes ∷ xs) ys fits =
     let rest = fits_append room file xs ys fits.1 in ((fits.0, rest.0), rest.1)

@@ -32,7 +32,7 @@ whole_cut to old = record {
   no_longer = grind (arith, places) }
 
 -- the deed is on this file or on another
-by_file : (other file : ℕ) (before : List ℕ → Type 0) (step : List ℕ → List ℕ → Type 0) (old new : List ℕ) → before old → step old new
+pub by_file : (other file : ℕ) (before : List ℕ → Type 0) (step : List ℕ → List ℕ → Type 0) (old new : List ℕ) → before old → step old new
     → Steps other file before step (if other == file then new else old)
 by_file other file before step old new was does =
     elim (eqb_tells other file) [

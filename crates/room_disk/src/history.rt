@@ -1,9 +1,12 @@
 ghost use Rattle.std.specs.Prelude.{◌≡◌, ℕ, ◌+◌, ◌-◌, ◌<◌, ◌≤◌, ◌^◌, ◌∷◌, List, [], length, min, take, drop, OnOk, OnErr};
+ghost use Rattle.room_disk.specs.Crashed.{crashed_file};
 ghost use Rattle.room_disk.specs.Past.{listed, read_after};
 ghost use Rattle.room_disk.specs.declared.deed.Deed.TheVariants.{Written, Cut, Synced};
 
 use crate::deed::Deed;
 use crate::mem_file::{MemFile, make_room, position};
+use crate::part::Part;
+use crate::rebuilding::rebuild_all;
 use room_base::{Items, Memory};
 use std::alloc::Global;
 use std::marker::Model;
@@ -88,5 +91,29 @@ impl History {
     {
         self.deeds.push(Deed::Synced { file })?;
         Ok(())
+    }
+
+    /// One image that a crash may leave, with nothing pending: of each deed since the last sync of its file
+    /// it has this part. Takes no memory.
+    pub fn crashed(self, part: Part) -> History
+        ensures settled { result.deeds ≡ [] }
+        ensures image { (file : ℕ) → listed result.first file ≡ crashed_file part (listed self.first) self.deeds file }
+    {
+        let History {
+            alloc,
+            mut files,
+            mut deeds,
+        } = self;
+        rebuild_all(&mut files, &deeds, part);
+        deeds.clear();
+        History {
+            alloc,
+            files,
+            deeds,
+        }
+    }
+
+    pub fn allocator(&self) -> Global {
+        self.alloc
     }
 }

@@ -2,6 +2,7 @@ ghost use Rattle.std.specs.Prelude.{◌≡◌, ◌⊎◌, ◌↔◌, ℕ, ◌+�
 ghost use Rattle.room_base.specs.Faults.{risen};
 ghost use Rattle.room_disk.specs.Blank.{IsBlank};
 ghost use Rattle.room_disk.specs.Crash.{overlaid, Torn, CutShort};
+ghost use Rattle.room_disk.specs.Crashed.{crashed_file, part_of};
 ghost use Rattle.room_disk.specs.Disk.{IsDisk, Quiet, Others, Leaves, Images, Settled, FileCause};
 ghost use Rattle.room_disk.specs.Faults.{one_more_fault, no_faults, HasRisen};
 ghost use Rattle.room_disk.specs.Memory.{IsToFail, counted, told_store, Looks, Changes};
@@ -11,6 +12,7 @@ ghost use Rattle.room_disk.specs.declared.deed.Deed.TheVariants.{Written, Cut, S
 use crate::Store;
 use crate::fault_counts::FaultCounts;
 use crate::history::History;
+use crate::part::part_of;
 use room_base::{CallCount, Failed, Memory, risen_count};
 use std::alloc::Global;
 use std::marker::Model;
@@ -67,6 +69,33 @@ impl MemStore {
         ensures { result ≡ self.now.short }
     {
         self.short
+    }
+
+    /// The disk after a crash, with nothing pending and no call that is to fail. Of what was written or
+    /// cut since the last sync of its file it has nothing (0), all (1), all ranges full of 0xFF (2), or
+    /// the first half of each write and all cuts (3).
+    pub fn crashed(self, choice: u8) -> MemStore
+        requires { choice < 4 }
+        ensures image { (file : ℕ) → (told_store result).reads file
+            ≡ crashed_file (part_of choice) (listed self.past.first) self.past.deeds file }
+        ensures possible { Images (told_store self) (told_store result).reads }
+        ensures settled { (file : ℕ) → Settled (told_store result) file }
+        ensures rest { result ≡ record {
+            past = record { first = result.past.first; deeds = [] };
+            calls = record { failing = []; made = 0 };
+            left = None;
+            faults = no_faults;
+            short = 0
+        } }
+    {
+        let alloc = self.past.allocator();
+        MemStore {
+            past: self.past.crashed(part_of(choice)),
+            calls: CallCount::new(Vec::new(alloc)),
+            left: None,
+            faults: FaultCounts::new(),
+            short: 0,
+        }
     }
 
     // Counts one more call, and says whether it is to fail.
