@@ -16,3 +16,6 @@ mod store;
 pub use folder_store::FolderStore;
 pub use mem_store::MemStore;
 pub use store::Store;
+
+#[cfg(test)]
+mod tests;
