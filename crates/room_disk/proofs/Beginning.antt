@@ -8,8 +8,9 @@ use Rattle.room_disk.specs.Memory.{StoreInMemory, told_store}
 
 all_same : (count place byte : ℕ) → get_or (replicate count byte) place byte ≡ byte
 all_same count place byte = elim (cases_lt place count) [
-    inl inside ↦ get_or-replicate count place byte byte inside
-  | inr past ↦ get_or_past (replicate count byte) place byte (omega (arith, length-replicate {A = ℕ} count)) ]
+  | inl inside ↦ get_or-replicate count place byte byte inside
+  | inr past ↦ get_or_past (replicate count byte) place byte (omega (arith, length-replicate {A = ℕ} count))
+]
 
 no_fault : (file : ℕ) → faults_on no_faults file ≡ 0
 unfolding no_faults
@@ -22,4 +23,5 @@ begins_blank store blank faults =
       reads = λ file. refl;
       settled = λ file bytes left. left;
       since = λ moment image left file. left.1 file;
-      faults = λ file. rw faults (no_fault file) })
+      faults = λ file. rw faults (no_fault file);
+    })

@@ -21,16 +21,20 @@ not_written at bytes old = record {
   behind = λ place from inside. refl;
   no_shorter = omega arith;
   no_longer = omega arith;
-  gate = λ letter one is. inr refl }
+  gate = λ letter one is. inr refl;
+}
 
 no_gate : (byte : ℕ) → byte ≡ 0xFF → IsGateLetter byte → ⊥
 no_gate byte spoiled gate = elim gate [
-    inl journal ↦ omega (arith, spoiled, journal)
+  | inl journal ↦ omega (arith, spoiled, journal)
   | inr rest ↦ elim rest [
-      inl entry ↦ omega (arith, spoiled, entry)
+    | inl entry ↦ omega (arith, spoiled, entry)
     | inr more ↦ elim more [
-        inl label ↦ omega (arith, spoiled, label)
-      | inr mark ↦ omega (arith, spoiled, mark) ] ] ]
+      | inl label ↦ omega (arith, spoiled, label)
+      | inr mark ↦ omega (arith, spoiled, mark)
+    ]
+  ]
+]
 
 spoiled_write : (at : ℕ) (bytes old : List ℕ) → Torn at bytes old (overlaid at (replicate (length bytes) 0xFF) old)
 spoiled_write at bytes old =
@@ -43,13 +47,14 @@ spoiled_write at bytes old =
       no_shorter = omega (arith, length-overlaid at filled old);
       no_longer = omega (arith, length-overlaid at filled old, size);
       gate = λ letter one is.
-        let single : length bytes ≡ 1 = ap (λ (l : List ℕ). length l) one in
-        let place : at - at ≡ 0 = omega arith in
-        let byte : get_or new at 0 ≡ 0xFF =
-            overlaid-within at filled old at (omega arith) (omega (arith, size, single))
-            ∙ ap (λ (n : ℕ). get_or filled n 0) place
-            ∙ get_or-replicate (length bytes) 0 0xFF 0 (omega (arith, single)) in
-        absurd (no_gate (get_or new at 0) byte is) }
+          let single : length bytes ≡ 1 = ap (λ (l : List ℕ). length l) one in
+          let place : at - at ≡ 0 = omega arith in
+          let byte : get_or new at 0 ≡ 0xFF =
+          overlaid-within at filled old at (omega arith) (omega (arith, size, single))
+          ∙ ap (λ (n : ℕ). get_or filled n 0) place
+          ∙ get_or-replicate (length bytes) 0 0xFF 0 (omega (arith, single)) in
+          absurd (no_gate (get_or new at 0) byte is);
+    }
 
 half_write : (at : ℕ) (bytes old : List ℕ) → Torn at bytes old (overlaid at (take (length bytes / 2) bytes) old)
 half_write at bytes old =
@@ -62,9 +67,10 @@ half_write at bytes old =
       no_shorter = omega (arith, length-overlaid at half old);
       no_longer = omega (arith, length-overlaid at half old, size);
       gate = λ letter one is.
-        let single : length bytes ≡ 1 = ap (λ (l : List ℕ). length l) one in
-        let none : length half ≡ 0 = omega (arith, length-take (length bytes / 2) bytes, single) in
-        inr (overlaid-behind at half old at (omega (arith, none))) }
+          let single : length bytes ≡ 1 = ap (λ (l : List ℕ). length l) one in
+          let none : length half ≡ 0 = omega (arith, length-take (length bytes / 2) bytes, single) in
+          inr (overlaid-behind at half old at (omega (arith, none)));
+    }
 
 part_torn : (part : Part) (at : ℕ) (bytes old : List ℕ) → Torn at bytes old (partly_written part at bytes old)
 part_torn Nothing at bytes old = not_written at bytes old
@@ -76,7 +82,8 @@ spoiled_cut : (to : ℕ) (old : List ℕ) → CutShort to old (take to old ++ re
 spoiled_cut to old = record {
   before = λ place below inside. grind (arith, places);
   no_shorter = grind (arith, places);
-  no_longer = grind (arith, places) }
+  no_longer = grind (arith, places);
+}
 
 part_cut : (part : Part) (to : ℕ) (old : List ℕ) → CutShort to old (partly_cut part to old)
 part_cut Nothing to old = record { before = λ place below inside. refl; no_shorter = omega arith; no_longer = omega arith }
@@ -89,13 +96,17 @@ may_leave_crashed part first [] file = refl
 may_leave_crashed part first (Written other at bytes ∷ older) file =
     let before = crashed_file part first older file in
     by_file other file (MayLeave first older file) (Torn at bytes) before (partly_written part at bytes before)
-      (may_leave_crashed part first older file) (part_torn part at bytes before)
+    (may_leave_crashed part first older file) (part_torn part at bytes before)
 may_leave_crashed part first (Cut other to ∷ older) file =
     let before = crashed_file part first older file in
     by_file other file (MayLeave first older file) (CutShort to) before (partly_cut part to before)
-      (may_leave_crashed part first older file) (part_cut part to before)
+    (may_leave_crashed part first older file) (part_cut part to before)
 may_leave_crashed part first (Synced other ∷ older) file =
     elim (eqb_tells other file) [
-        inl is ↦ inl (is.1, if_same other file (read_after first older file) (crashed_file part first older file) is.1)
-      | inr isnt ↦ inr (isnt.1, subst (MayLeave first older file)
-          (sym (if_other other file (read_after first older file) (crashed_file part first older file) isnt.1)) (may_leave_crashed part first older file)) ]
+      | inl is ↦ inl (is.1, if_same other file (read_after first older file) (crashed_file part first older file) is.1)
+      | inr isnt ↦ inr (
+        isnt.1,
+        subst (MayLeave first older file)
+            (sym (if_other other file (read_after first older file) (crashed_file part first older file) isnt.1)) (may_leave_crashed part first older file),
+      )
+    ]

@@ -15,7 +15,8 @@ later_first : (file : ℕ) (one : MemFile) (rest : List MemFile) (index : ℕ) �
 later_first file one rest index first = record {
   below = omega (arith, first.below);
   number = λ other. first.number other;
-  before = λ earlier other less. first.before (suc earlier) other (omega (arith, less)) }
+  before = λ earlier other less. first.before (suc earlier) other (omega (arith, less));
+}
 
 pub file_at : (file : ℕ) (files : List MemFile) (index : ℕ) (other : MemFile) → IsFirst file files index → file_of file files ≡ get_or files index other
 file_at file [] index other first = absurd (omega (arith, first.below))
@@ -46,7 +47,7 @@ file_set_other file other (one ∷ rest) zero new first is apart =
     ∙ sym (if_other one.number other one (file_of other rest) (λ same. apart (sym same ∙ first.number one)))
 file_set_other file other (one ∷ rest) (suc index) new first is apart =
     ap (λ (found : MemFile). if one.number == other then one else found)
-      (file_set_other file other rest index new (later_first file one rest index first) is apart)
+    (file_set_other file other rest index new (later_first file one rest index first) is apart)
 
 pub first_set : (files : List MemFile) (index : ℕ) (new : MemFile)
     → ((other : MemFile) → new.number ≡ (get_or files index other).number)
@@ -61,8 +62,9 @@ first_set (one ∷ rest) (suc index) new number first =
 file_push : (number file : ℕ) (files : List MemFile) → file_of number (files ++ blank_file file ∷ []) ≡ file_of number files
 file_push number file [] =
     elim (eqb_tells file number) [
-        inl is ↦ if_same file number (blank_file file) (blank_file number) is.1 ∙ ap blank_file is.1
-      | inr isnt ↦ if_other file number (blank_file file) (blank_file number) isnt.1 ]
+      | inl is ↦ if_same file number (blank_file file) (blank_file number) is.1 ∙ ap blank_file is.1
+      | inr isnt ↦ if_other file number (blank_file file) (blank_file number) isnt.1
+    ]
 file_push number file (one ∷ rest) = ap (λ (found : MemFile). if one.number == number then one else found) (file_push number file rest)
 
 first_push : (file : ℕ) (files : List MemFile) → first_bytes (files ++ blank_file file ∷ []) ≡ first_bytes files
@@ -80,7 +82,8 @@ pub same_files : (old new : List MemFile) → HasRoomBehind old → HasSameFiles
 same_files old new behind same = record {
   each = λ number. let P : MemFile → Type 0 = λ f. HasGrown (file_of number old) f in
       subst P (sym (same.each number)) (unchanged (file_of number old) (behind number));
-  first = same.first }
+  first = same.first;
+}
 
 -- the same files, of which one has grown
 pub grown_set : (old mid : List MemFile) (file index : ℕ) (before after : MemFile) → HasRoomBehind old → HasSameFiles old mid
@@ -90,20 +93,22 @@ grown_set old mid file index before after behind same is value has =
     let number : before.number ≡ file = ap (λ (f : MemFile). f.number) value ∙ is.number before in
     record {
       each = λ other. elim (eqb_tells other file) [
-          inl here ↦
+        | inl here ↦
             let P : ℕ → Type 0 = λ n. HasGrown (file_of n old) (file_of n (set mid index after)) in
             let Q : MemFile → Type 0 = λ f. HasGrown f (file_of file (set mid index after)) in
             let R : MemFile → Type 0 = λ f. HasGrown before f in
             subst P (sym here.1) (subst Q (sym found ∙ same.each file)
-              (subst R (sym (file_set file mid index after is (has.number ∙ number))) has))
+            (subst R (sym (file_set file mid index after is (has.number ∙ number))) has))
         | inr elsewhere ↦
             let R : MemFile → Type 0 = λ f. HasGrown (file_of other old) f in
             subst R (sym (file_set_other file other mid index after is (has.number ∙ number) elsewhere.1 ∙ same.each other))
-              (unchanged (file_of other old) (behind other)) ];
+            (unchanged (file_of other old) (behind other))
+      ];
       first = first_set mid index after
           (λ other. has.number ∙ number ∙ sym (is.number other))
           (λ other. has.first ∙ ap (λ (f : MemFile). f.first.bytes) (sym found ∙ file_at file mid index other is))
-        ∙ same.first }
+          ∙ same.first;
+    }
 
 -- what the first file with a number is, the file at its index is
 pub room_at : (file index : ℕ) (files : List MemFile) (one : MemFile) → IsFirst file files index → one ≡ get_or files index one
@@ -155,9 +160,10 @@ none_push number added (one ∷ rest) apart none (suc index) other below =
 
 pub distinct_push : (added : ℕ) (files : List MemFile) → NoneHas added files → IsDistinct files → IsDistinct (files ++ blank_file added ∷ [])
 distinct_push added [] none distinct = ((λ index other below. absurd (omega (arith, below))), tt)
-distinct_push added (one ∷ rest) none distinct =
-    (none_push one.number added rest (λ is. none zero one (omega arith) (sym is)) distinct.0,
-     distinct_push added rest (λ index other below. none (suc index) other (omega (arith, below))) distinct.1)
+distinct_push added (one ∷ rest) none distinct = (
+  none_push one.number added rest (λ is. none zero one (omega arith) (sym is)) distinct.0,
+  distinct_push added rest (λ index other below. none (suc index) other (omega (arith, below))) distinct.1,
+)
 
 pub first_at : (files : List MemFile) (index : ℕ) (one : MemFile) → IsDistinct files → index < length files
     → one ≡ get_or files index one → file_of one.number files ≡ one
@@ -166,7 +172,7 @@ first_at (head ∷ rest) zero one distinct below value =
     if_same head.number one.number head (file_of one.number rest) (ap (λ (f : MemFile). f.number) (sym value)) ∙ sym value
 first_at (head ∷ rest) (suc index) one distinct below value =
     if_other head.number one.number head (file_of one.number rest)
-      (λ is. distinct.0 index one (omega (arith, below)) (ap (λ (f : MemFile). f.number) (sym value) ∙ sym is))
+    (λ is. distinct.0 index one (omega (arith, below)) (ap (λ (f : MemFile). f.number) (sym value) ∙ sym is))
     ∙ first_at rest index one distinct.1 (omega (arith, below)) value
 
 here_listed : (number file : ℕ) (bytes : List ℕ) (rest : List (ℕ × List ℕ)) → number ≡ file → listed rest file ≡ []
@@ -183,19 +189,20 @@ pub listed_first : (files : List MemFile) (file : ℕ) → IsDistinct files → 
 listed_first [] file distinct = refl
 listed_first (one ∷ rest) file distinct =
     elim (eqb_tells one.number file) [
-        inl is ↦
+      | inl is ↦
           (let none : NoneHas file rest = (let P : ℕ → Type 0 = λ n. NoneHas n rest in subst P is.1 distinct.0) in
-           let ends : listed (first_bytes rest) file ≡ [] =
-             listed_first rest file distinct.1 ∙ ap (λ (f : MemFile). f.first.bytes) (file_none file rest none) in
-           here_listed one.number file one.first.bytes (first_bytes rest) is.1 ends)
+          let ends : listed (first_bytes rest) file ≡ [] =
+          listed_first rest file distinct.1 ∙ ap (λ (f : MemFile). f.first.bytes) (file_none file rest none) in
+          here_listed one.number file one.first.bytes (first_bytes rest) is.1 ends)
           ∙ ap (λ (f : MemFile). f.first.bytes) (sym (if_same one.number file one (file_of file rest) is.1))
       | inr isnt ↦
           elsewhere_listed one.number file one.first.bytes (first_bytes rest) isnt.1
           ∙ listed_first rest file distinct.1
-          ∙ ap (λ (f : MemFile). f.first.bytes) (sym (if_other one.number file one (file_of file rest) isnt.1)) ]
+          ∙ ap (λ (f : MemFile). f.first.bytes) (sym (if_other one.number file one (file_of file rest) isnt.1))
+    ]
 
 pub distinct_grown : (files : List MemFile) (file index : ℕ) (before after : MemFile) → IsFirst file files index
     → before ≡ get_or files index before → HasGrown before after → IsDistinct files → IsDistinct (set files index after)
 distinct_grown files file index before after is value has distinct =
     distinct_set files index after
-      (λ other. has.number ∙ ap (λ (f : MemFile). f.number) value ∙ is.number before ∙ sym (is.number other)) distinct
+    (λ other. has.number ∙ ap (λ (f : MemFile). f.number) value ∙ is.number before ∙ sym (is.number other)) distinct

@@ -35,19 +35,21 @@ nothing_done part file [] fits = refl
 nothing_done part file (Written other at bytes ∷ older) fits =
     ap (λ (l : List ℕ). partly_done part file (Written other at bytes) l) (nothing_done part file older fits.1)
     ∙ elim (eqb_tells other file) [
-        inl is ↦
+      | inl is ↦
           (let none : bytes ≡ [] = nil_from_length bytes (omega (arith, fits.0 is.1)) in
-           let place : at ≡ 0 = omega (arith, fits.0 is.1) in
-           if_same other file (partly_written part at bytes []) [] is.1
-           ∙ ap (λ (n : ℕ). partly_written part n bytes []) place
-           ∙ ap (λ (l : List ℕ). partly_written part 0 l []) none
-           ∙ no_write part)
-      | inr isnt ↦ if_other other file (partly_written part at bytes []) [] isnt.1 ]
+          let place : at ≡ 0 = omega (arith, fits.0 is.1) in
+          if_same other file (partly_written part at bytes []) [] is.1
+          ∙ ap (λ (n : ℕ). partly_written part n bytes []) place
+          ∙ ap (λ (l : List ℕ). partly_written part 0 l []) none
+          ∙ no_write part)
+      | inr isnt ↦ if_other other file (partly_written part at bytes []) [] isnt.1
+    ]
 nothing_done part file (Cut other to ∷ older) fits =
     ap (λ (l : List ℕ). partly_done part file (Cut other to) l) (nothing_done part file older fits)
     ∙ elim (eqb_tells other file) [
-        inl is ↦ if_same other file (partly_cut part to []) [] is.1 ∙ no_cut part to
-      | inr isnt ↦ if_other other file (partly_cut part to []) [] isnt.1 ]
+      | inl is ↦ if_same other file (partly_cut part to []) [] is.1 ∙ no_cut part to
+      | inr isnt ↦ if_other other file (partly_cut part to []) [] isnt.1
+    ]
 nothing_done part file (Synced other ∷ older) fits = nothing_done part file older fits
 
 nothing_rebuilt : (part : Part) (file : ℕ) (deeds : List Deed) → Fits 0 file deeds → rebuilt part file [] deeds ≡ []
@@ -68,10 +70,11 @@ still_distinct : (part : Part) (deeds : List Deed) (old new : List MemFile) → 
 still_distinct part deeds [] [] size are distinct = tt
 still_distinct part deeds [] (two ∷ new) size are distinct = absurd (omega (arith, size))
 still_distinct part deeds (one ∷ old) [] size are distinct = absurd (omega (arith, size))
-still_distinct part deeds (one ∷ old) (two ∷ new) size are distinct =
-    ((λ index other below is. distinct.0 index other (omega (arith, size, below))
-        (sym (are (suc index) other (omega (arith, size, below))).number ∙ is ∙ (are zero one (omega arith)).number)),
-     still_distinct part deeds old new (omega (arith, size)) (rest_rebuilt part deeds one two old new are) distinct.1)
+still_distinct part deeds (one ∷ old) (two ∷ new) size are distinct = (
+  (λ index other below is. distinct.0 index other (omega (arith, size, below))
+      (sym (are (suc index) other (omega (arith, size, below))).number ∙ is ∙ (are zero one (omega arith)).number)),
+  still_distinct part deeds old new (omega (arith, size)) (rest_rebuilt part deeds one two old new are) distinct.1,
+)
 
 found_rebuilt : (part : Part) (deeds : List Deed) (file : ℕ) (old new : List MemFile) → length new ≡ length old → AllRebuilt part deeds old new
     → (file_of file old ≡ blank_file file → IsRebuilt part deeds (blank_file file) (blank_file file))
@@ -83,17 +86,18 @@ found_rebuilt part deeds file (one ∷ old) (two ∷ new) size are blank =
     let first : IsRebuilt part deeds one two = are zero one (omega arith) in
     let P : MemFile → Type 0 = λ f. IsRebuilt part deeds f (file_of file (two ∷ new)) in
     elim (eqb_tells one.number file) [
-        inl is ↦
+      | inl is ↦
           let Q : MemFile → Type 0 = λ f. IsRebuilt part deeds one f in
           subst P (sym (if_same one.number file one (file_of file old) is.1))
-            (subst Q (sym (if_same two.number file two (file_of file new) (first.number ∙ is.1))) first)
+          (subst Q (sym (if_same two.number file two (file_of file new) (first.number ∙ is.1))) first)
       | inr isnt ↦
           let Q : MemFile → Type 0 = λ f. IsRebuilt part deeds (file_of file old) f in
           let apart : two.number ≢ file = λ same. isnt.1 (sym first.number ∙ same) in
           subst P (sym (if_other one.number file one (file_of file old) isnt.1))
-            (subst Q (sym (if_other two.number file two (file_of file new) apart))
-              (found_rebuilt part deeds file old new (omega (arith, size)) (rest_rebuilt part deeds one two old new are)
-                (λ none. blank (if_other one.number file one (file_of file old) isnt.1 ∙ none)))) ]
+          (subst Q (sym (if_other two.number file two (file_of file new) apart))
+          (found_rebuilt part deeds file old new (omega (arith, size)) (rest_rebuilt part deeds one two old new are)
+          (λ none. blank (if_other one.number file one (file_of file old) isnt.1 ∙ none))))
+    ]
 
 blank_rebuilt : (part : Part) (deeds : List Deed) (file : ℕ) → Fits 0 file deeds → IsRebuilt part deeds (blank_file file) (blank_file file)
 blank_rebuilt part deeds file fits =
@@ -119,8 +123,8 @@ module _ (part : Part) (deeds : List Deed) (old new : List MemFile) (kept : IsKe
   rebuilt_at : (file : ℕ) → IsRebuilt part deeds (file_of file old) (file_of file new)
   rebuilt_at file =
       found_rebuilt part deeds file old new size are
-        (λ none. let P : MemFile → Type 0 = λ f. IsKept (listed (first_bytes old)) deeds file f in
-            blank_rebuilt part deeds file (subst P none (kept.each file)).fits)
+      (λ none. let P : MemFile → Type 0 = λ f. IsKept (listed (first_bytes old)) deeds file f in
+      blank_rebuilt part deeds file (subst P none (kept.each file)).fits)
 
   distinct : IsDistinct new
   distinct = still_distinct part deeds old new size are kept.distinct
@@ -141,5 +145,7 @@ module _ (part : Part) (deeds : List Deed) (old new : List MemFile) (kept : IsKe
       now = (rebuilt_at file).now ∙ sym (rebuilt_at file).first ∙ sym (listed_first new file distinct);
       within = (rebuilt_at file).within;
       room = (rebuilt_at file).room;
-      fits = tt };
-    distinct = distinct }
+      fits = tt;
+    };
+    distinct = distinct;
+  }

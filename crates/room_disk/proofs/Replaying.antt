@@ -33,14 +33,14 @@ pub fits_front : (room file : ℕ) (deeds : List Deed) (count : ℕ) → Fits ro
     → Fits room file (reverse (drop count deeds)) × Fits room file (reverse (take count deeds))
 fits_front room file deeds count fits =
     let parts : reverse deeds ≡ reverse (drop count deeds) ++ reverse (take count deeds) =
-        ap (λ (l : List Deed). reverse l) (sym (take-append-drop count deeds)) ∙ reverse-append (take count deeds) (drop count deeds) in
+    ap (λ (l : List Deed). reverse l) (sym (take-append-drop count deeds)) ∙ reverse-append (take count deeds) (drop count deeds) in
     fits_append room file (reverse (drop count deeds)) (reverse (take count deeds)) (subst (Fits room file) parts fits)
 
 pub fits_at : (room file : ℕ) (deeds : List Deed) (index : ℕ) (deed : Deed) → Fits room file (reverse deeds) → index < length deeds
     → deed ≡ get_or deeds index deed → Fits room file (deed ∷ [])
 fits_at room file deeds index deed fits below is =
     fits_head room file deed (reverse (take index deeds))
-      (subst (Fits room file) (reverse_more deeds index deed below is) (fits_front room file deeds (index + 1) fits).1)
+    (subst (Fits room file) (reverse_more deeds index deed below is) (fits_front room file deeds (index + 1) fits).1)
 
 -- the newest deeds, and those before them
 pub split_newest : (deeds : List Deed) (count : ℕ) → count ≤ length deeds
@@ -48,10 +48,11 @@ pub split_newest : (deeds : List Deed) (count : ℕ) → count ≤ length deeds
 split_newest deeds count enough =
     let front = length deeds - count in
     let parts : reverse deeds ≡ reverse (drop front deeds) ++ reverse (take front deeds) =
-        ap (λ (l : List Deed). reverse l) (sym (take-append-drop front deeds)) ∙ reverse-append (take front deeds) (drop front deeds) in
-    let size : length (reverse (drop front deeds)) ≡ count = omega (arith, length-reverse (drop front deeds), length-drop front deeds) in
-    (sym (ap (λ (l : List Deed). take count l) parts ∙ take_at (reverse (drop front deeds)) (reverse (take front deeds)) count size),
-     sym (ap (λ (l : List Deed). drop count l) parts ∙ drop_at (reverse (drop front deeds)) (reverse (take front deeds)) count size))
+    ap (λ (l : List Deed). reverse l) (sym (take-append-drop front deeds)) ∙ reverse-append (take front deeds) (drop front deeds) in
+    let size : length (reverse (drop front deeds)) ≡ count = omega (arith, length-reverse (drop front deeds), length-drop front deeds) in (
+      sym (ap (λ (l : List Deed). take count l) parts ∙ take_at (reverse (drop front deeds)) (reverse (take front deeds)) count size),
+      sym (ap (λ (l : List Deed). drop count l) parts ∙ drop_at (reverse (drop front deeds)) (reverse (take front deeds)) count size),
+    )
 
 pub fits_part : (room more file : ℕ) (deeds part : List Deed) → more ≡ room → deeds ≡ part → Fits room file part → Fits more file deeds
 fits_part room more file deeds part rooms same fits =
@@ -78,11 +79,12 @@ crashed_is_rebuilt part first file (Cut other to ∷ older) =
 crashed_is_rebuilt part first file (Synced other ∷ older) =
     let split : ℕ → List ℕ = split_at part file (first file) (Synced other ∷ older) in
     elim (eqb_tells other file) [
-        inl is ↦
+      | inl is ↦
           if_same other file (read_after first older file) (crashed_file part first older file) is.1
           ∙ sym (all_done_reads first file older)
           ∙ sym (ap split (if_same other file 0 (suc (unsynced file older)) is.1))
       | inr isnt ↦
           if_other other file (read_after first older file) (crashed_file part first older file) isnt.1
           ∙ crashed_is_rebuilt part first file older
-          ∙ sym (ap split (if_other other file 0 (suc (unsynced file older)) isnt.1)) ]
+          ∙ sym (ap split (if_other other file 0 (suc (unsynced file older)) isnt.1))
+    ]

@@ -30,9 +30,9 @@ written held mid piece new len at within room front back is =
     let end = at + length piece in
     let size : length (take len held) ≡ len = omega (arith, length-take len held) in
     let start : length (take at mid ++ piece) ≡ end =
-        omega (arith, length-append (take at mid) piece, ap length front, length-take at (take len held), length-append (take at (take len held)) (replicate (at - len) 0), size, length-replicate {A = ℕ} (at - len)) in
+    omega (arith, length-append (take at mid) piece, ap length front, length-take at (take len held), length-append (take at (take len held)) (replicate (at - len) 0), size, length-replicate {A = ℕ} (at - len)) in
     let behind : drop end mid ≡ drop end held =
-        sym (drop-drop (length piece) at mid) ∙ ap (λ (l : List ℕ). drop (length piece) l) back ∙ drop-drop (length piece) at held in
+    sym (drop-drop (length piece) at mid) ∙ ap (λ (l : List ℕ). drop (length piece) l) back ∙ drop-drop (length piece) at held in
     ap (λ (l : List ℕ). take (max len end) l) (is ∙ ap (λ (l : List ℕ). take at mid ++ piece ++ l) behind)
     ∙ front_of (take at mid ++ piece) (drop end held) end (max len end) start (omega arith)
     ∙ ap (λ (l : List ℕ). take at mid ++ piece ++ l) (cut_back held len end within room)
@@ -47,7 +47,7 @@ spoiled held mid new len at count byte within room front back is =
     let size : length (replicate count byte) ≡ count = length-replicate count byte in
     let same : at + count - at ≡ count = omega arith in
     let filled : new ≡ take at mid ++ replicate count byte ++ drop (at + length (replicate count byte)) mid =
-        is ∙ ap (λ (n : ℕ). take at mid ++ replicate n byte ++ drop (at + count) mid) same
-        ∙ ap (λ (n : ℕ). take at mid ++ replicate count byte ++ drop (at + n) mid) (sym size) in
+    is ∙ ap (λ (n : ℕ). take at mid ++ replicate n byte ++ drop (at + count) mid) same
+    ∙ ap (λ (n : ℕ). take at mid ++ replicate count byte ++ drop (at + n) mid) (sym size) in
     ap (λ (n : ℕ). take (max len (at + n)) new) (sym size)
     ∙ written held mid (replicate count byte) new len at within (omega (arith, size)) front back filled

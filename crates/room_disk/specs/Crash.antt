@@ -17,7 +17,7 @@ pub record Torn (at : ℕ) (bytes old new : List ℕ) : Type 0 where
   pub no_shorter : length old ≤ length new
   pub no_longer : length new ≤ max (length old) (at + length bytes)
   pub gate : (letter : ℕ) → bytes ≡ letter ∷ [] → IsGateLetter (slice_index new at)
-    → (slice_index new at ≡ letter) ⊎ (slice_index new at ≡ slice_index old at)
+      → (slice_index new at ≡ letter) ⊎ (slice_index new at ≡ slice_index old at)
 
 -- A cut that may have been cut short itself: some length between, any bytes in the part that was to go.
 pub record CutShort (to : ℕ) (old new : List ℕ) : Type 0 where

@@ -24,7 +24,7 @@ told_store store =
       leaves = MayLeave first store.past.deeds;
       moment = length store.past.deeds;
       since = MightHaveLeft first store.past.deeds;
-      faults = faults_on store.faults
+      faults = faults_on store.faults;
     }
 
 -- the next call is listed, or the store has stopped
@@ -50,5 +50,5 @@ pub record Looks {T E : Type 0} (file : ℕ) (old new : StoreInMemory) (answer :
 pub record Changes {T E : Type 0} (is_to_fail : Type 0) (file : ℕ) (past : Past) (old new : StoreInMemory) (answer : Result T E) : Type 0 where
   pub refused : is_to_fail → IsErr answer × (new ≡ record (counted old) { faults = counts_after file answer old.faults })
   pub made : (is_to_fail → ⊥)
-    → (IsOk answer × (new ≡ record (counted old) { past = past }))
-    ⊎ (IsErr answer × (new ≡ record (counted old) { faults = counts_after file answer old.faults; short = risen old.short }))
+      → (IsOk answer × (new ≡ record (counted old) { past = past }))
+      ⊎ (IsErr answer × (new ≡ record (counted old) { faults = counts_after file answer old.faults; short = risen old.short }))

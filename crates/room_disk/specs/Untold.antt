@@ -9,10 +9,12 @@ untold_disk faults = record {
   leaves = λ file bytes. Unit {0};
   moment = 0;
   since = λ moment image. Unit {0};
-  faults = faults }
+  faults = faults;
+}
 
 pub untold_is_disk : (faults : ℕ → ℕ) → IsDisk (untold_disk faults)
 untold_is_disk faults = record {
   counts_now = λ moment image le images. tt;
   only_now = λ image left file. tt;
-  reads_one = λ file. tt }
+  reads_one = λ file. tt;
+}

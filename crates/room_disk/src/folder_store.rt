@@ -9,8 +9,8 @@ use std::alloc::Global;
 use std::collections::BTreeMap;
 use std::fs::{File, OpenOptions};
 use std::io::ErrorKind;
-use std::os::unix::fs::FileExt;
 use std::marker::Model;
+use std::os::unix::fs::FileExt;
 use std::rt::Files;
 
 /// How often a read that was interrupted by a signal is tried again.

@@ -28,8 +28,8 @@ impl Model for History {
     ghost Value = { Past };
 
     ghost view = { λ history. record {
-        first = first_bytes history.files.items;
-        deeds = reverse history.deeds.items
+      first = first_bytes history.files.items;
+      deeds = reverse history.deeds.items;
     } };
 
     ghost invariant = { λ history.
@@ -65,7 +65,11 @@ impl History {
     {
         let piece = Items::of(Vec::from_slice(self.alloc, bytes)?);
         let index = make_room(self.alloc, &mut self.files, file, at + bytes.len())?;
-        self.deeds.push(Deed::Written { file, at: at as u64, bytes: piece })?;
+        self.deeds.push(Deed::Written {
+            file,
+            at: at as u64,
+            bytes: piece,
+        })?;
         let kept = &mut self.files[index];
         kept.now.overlay(at, bytes);
         Ok(())

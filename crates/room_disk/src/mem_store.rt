@@ -34,11 +34,11 @@ impl Model for MemStore {
     ghost Value = { StoreInMemory };
 
     ghost view = { λ store. record {
-        past = store.past;
-        calls = store.calls;
-        left = store.left;
-        faults = store.faults;
-        short = store.short
+      past = store.past;
+      calls = store.calls;
+      left = store.left;
+      faults = store.faults;
+      short = store.short;
     } };
 }
 
@@ -47,11 +47,11 @@ impl MemStore {
     /// `stop`, every call after so many fails.
     pub fn new(alloc: Global, failing: Vec<u64>, stop: Option<u64>) -> MemStore
         ensures new { result ≡ record {
-            past = record { first = []; deeds = [] };
-            calls = record { failing = failing.items; made = 0 };
-            left = stop;
-            faults = no_faults;
-            short = 0
+          past = record { first = []; deeds = [] };
+          calls = record { failing = failing.items; made = 0 };
+          left = stop;
+          faults = no_faults;
+          short = 0;
         } }
         ensures blank { IsBlank (told_store result) }
     {
@@ -81,11 +81,11 @@ impl MemStore {
         ensures possible { Images (told_store self) (told_store result).reads }
         ensures settled { (file : ℕ) → Settled (told_store result) file }
         ensures rest { result ≡ record {
-            past = record { first = result.past.first; deeds = [] };
-            calls = record { failing = []; made = 0 };
-            left = None;
-            faults = no_faults;
-            short = 0
+          past = record { first = result.past.first; deeds = [] };
+          calls = record { failing = []; made = 0 };
+          left = None;
+          faults = no_faults;
+          short = 0;
         } }
     {
         let alloc = self.past.allocator();
@@ -127,7 +127,9 @@ impl MemStore {
     fn answer(&mut self, file: u32, done: Result<(), Memory>) -> Result<(), Failed>
         ensures done { OnOk done (self.new ≡ self.old) }
         ensures lacking { OnErr done (self.new ≡ record self.old {
-            faults = one_more_fault file self.old.faults; short = risen self.old.short }) }
+          faults = one_more_fault file self.old.faults;
+          short = risen self.old.short;
+        }) }
         ensures past { self.new.past ≡ self.old.past }
         ensures risen { OnErr done (HasRisen file self.old.faults self.new.faults) }
         ensures same { IsOk result ↔ IsOk done }

@@ -7,4 +7,4 @@ pub do_part-requires : goal.do_part-requires
 do_part-requires c =
     let P : ℕ → Type 0 = λ room. Fits room c.args.file (c.deed-item.result ∷ []) in
     subst P (sym c.loop-deed.invariant.1)
-      (fits_at c.args.bytes.now.room c.args.file c.args.deeds.now c.loop-deed.deed-index c.deed-item.result c.requires c.loop-deed-test.true c.deed-item.is)
+    (fits_at c.args.bytes.now.room c.args.file c.args.deeds.now c.loop-deed.deed-index c.deed-item.result c.requires c.loop-deed-test.true c.deed-item.is)

@@ -8,7 +8,7 @@ pub returns-in-Some : goal.returns-in-Some
 returns-in-Some c =
     let first : IsFirst c.args.file c.self.inside.files.items c.in-Some.index = rw (← c.deref.ensures.value) c.in-Some.ensures in
     let found : file_of c.args.file c.self.inside.files.items ≡ c.index.result.now =
-        file_at c.args.file c.self.inside.files.items c.in-Some.index c.index.result.now first ∙ sym c.index.ensures in
+    file_at c.args.file c.self.inside.files.items c.in-Some.index c.index.result.now first ∙ sym c.index.ensures in
     rw (← c.self.view_is) (c.as_slice.ensures.value ∙ ap (λ (f : MemFile). f.now.bytes) (sym found) ∙ (c.self.invariant.each c.args.file).now)
 
 pub returns-in-None : goal.returns-in-None

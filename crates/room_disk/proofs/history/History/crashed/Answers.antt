@@ -12,7 +12,7 @@ use Rattle.room_disk.proofs.history.History.crashed.Goals as goal
 pub rebuild_all-requires : goal.rebuild_all-requires
 rebuild_all-requires c =
     rw (c.deref.ensures.value, c.deref_mut.ensures.value)
-      (can_rebuild (reverse c.self.inside.deeds.items) c.self.inside.files.items c.self.invariant)
+    (can_rebuild (reverse c.self.inside.deeds.items) c.self.inside.files.items c.self.invariant)
 
 pub invariant_of-result : goal.invariant_of-result
 invariant_of-result c =

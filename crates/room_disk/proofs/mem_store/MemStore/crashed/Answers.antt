@@ -11,6 +11,6 @@ returns-clause-possible c file =
     let past : Past = c.self.inside.past in
     let same : past ≡ c.args.self.past = ap (λ (s : StoreInMemory). s.past) c.self.view_is in
     let reads : read_after (listed c.crashed.result.first) c.crashed.result.deeds file ≡ crashed_file c.part_of.result (listed past.first) past.deeds file =
-        ap (λ (deeds : List Deed). read_after (listed c.crashed.result.first) deeds file) c.crashed.ensures.settled ∙ c.crashed.ensures.image file in
+    ap (λ (deeds : List Deed). read_after (listed c.crashed.result.first) deeds file) c.crashed.ensures.settled ∙ c.crashed.ensures.image file in
     rw (← same) (subst (MayLeave (listed past.first) past.deeds file) (sym reads)
-      (may_leave_crashed c.part_of.result (listed past.first) past.deeds file))
+    (may_leave_crashed c.part_of.result (listed past.first) past.deeds file))

@@ -11,6 +11,6 @@ returns-clause-quiet c =
     let new : Past = c.answer.new.self.past in
     let same : c.self.inside.past ≡ old = ap (λ (s : StoreInMemory). s.past) (c.self.view_is ∙ c.next_fails.ensures.counted) in
     let which : (new ≡ old) ⊎ (new ≡ record old { deeds = Synced c.args.file ∷ old.deeds }) =
-        rw (c.answer.ensures.past, ← same)
-          (done_or_not c.sync-done.result c.self.inside.past c.sync-done.new.self (Synced c.args.file) c.sync-done.ensures.done c.sync-done.ensures.undone) in
+    rw (c.answer.ensures.past, ← same)
+    (done_or_not c.sync-done.result c.self.inside.past c.sync-done.new.self (Synced c.args.file) c.sync-done.ensures.done c.sync-done.ensures.undone) in
     quiet_sync c.args.self.now c.answer.new.self c.args.file which
