@@ -1,5 +1,5 @@
 -- A store in memory begins blank.
-use Rattle.std.proofs.Common.{◌≡◌, ◌⊎◌, ◌<◌, ◌≤◌, ℕ, List, [], replicate, get_or, refl, sym, ap, ◌∙◌, arith, inl, inr, length, true}
+use Rattle.std.proofs.Common.{◌≡◌, ℕ, [], replicate, get_or, refl, arith, inl, inr}
 use Rattle.std.proofs.lemmas.List.{get_or-replicate, get_or_past, length-replicate}
 use Rattle.std.proofs.lemmas.Bool.{cases_lt}
 use Rattle.room_disk.specs.Blank.{IsBlank}

@@ -1,18 +1,16 @@
 -- What a choice of crash leaves is one of the images that a crash may leave.
-use Rattle.std.proofs.Common.{◌≡◌, ◌≢◌, ◌⊎◌, ◌==◌, ℕ, zero, suc, ◌+◌, ◌-◌, ◌/◌, ◌<◌, ◌≤◌, max, min, if◌then◌else◌, List, [], ◌∷◌, ◌++◌, length, get_or, take, drop, replicate, refl, sym, ap, subst, ◌∙◌, arith, inl, inr, length-append, length-take}
-use Rattle.std.proofs.lemmas.List.{places, length-replicate, get_or-replicate, get_or_past, nil_from_length}
-use Rattle.std.proofs.lemmas.Bool.{cases_lt}
+use Rattle.std.proofs.Common.{◌≡◌, ℕ, ◌-◌, ◌/◌, ◌≤◌, List, [], ◌∷◌, ◌++◌, length, get_or, take, replicate, refl, sym, ap, subst, ◌∙◌, arith, inl, inr, length-take}
+use Rattle.std.proofs.lemmas.List.{places, length-replicate, get_or-replicate}
 use Rattle.std.proofs.lemmas.Bool.Decides.{eqb_tells}
-use Rattle.std.proofs.lemmas.Grind.{common_steps}
 use Rattle.room_disk.specs.declared.deed.Deed.{Deed}
 use Rattle.room_disk.specs.declared.deed.Deed.TheVariants.{Written, Cut, Synced}
 use Rattle.room_disk.specs.declared.part.Part.{Part}
 use Rattle.room_disk.specs.declared.part.Part.TheVariants.{Nothing, All, Spoiled, FirstHalf}
 use Rattle.room_disk.specs.Crash.{overlaid, Torn, CutShort, IsGateLetter}
-use Rattle.room_disk.specs.Crashed.{partly_written, partly_cut, partly_done, crashed_file}
+use Rattle.room_disk.specs.Crashed.{partly_written, partly_cut, crashed_file}
 use Rattle.room_disk.specs.Disk.{Image}
-use Rattle.room_disk.specs.Laws.{if_same, if_other, whole_write, whole_cut, may_leave_read, by_file}
-use Rattle.room_disk.specs.Past.{read_after, Steps, MayLeave}
+use Rattle.room_disk.specs.Laws.{if_same, if_other, whole_write, whole_cut, by_file}
+use Rattle.room_disk.specs.Past.{read_after, MayLeave}
 use Rattle.room_disk.proofs.Overlay.{length-overlaid, overlaid-before, overlaid-within, overlaid-behind}
 
 not_written : (at : ℕ) (bytes old : List ℕ) → Torn at bytes old old

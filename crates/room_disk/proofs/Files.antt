@@ -1,6 +1,6 @@
 -- The files of a store in memory, found by their numbers.
-use Rattle.std.proofs.Common.{◌≡◌, ◌≢◌, ◌⊎◌, ◌==◌, ℕ, zero, suc, ◌+◌, ◌-◌, ◌<◌, ◌≤◌, Bool, true, false, cond, if◌then◌else◌, List, [], ◌∷◌, ◌++◌, length, set, get_or, refl, sym, ap, subst, ◌∙◌, arith, inl, inr}
-use Rattle.std.proofs.lemmas.Bool.Decides.{eqb_tells, nat_tests}
+use Rattle.std.proofs.Common.{◌≡◌, ◌≢◌, ◌==◌, ℕ, zero, suc, ◌<◌, ◌≤◌, if◌then◌else◌, List, [], ◌∷◌, ◌++◌, length, set, get_or, refl, sym, ap, subst, ◌∙◌, arith, inl, inr}
+use Rattle.std.proofs.lemmas.Bool.Decides.{eqb_tells}
 use Rattle.room_disk.specs.declared.mem_file.MemFile.{MemFile}
 use Rattle.room_disk.specs.Past.{listed}
 use Rattle.room_disk.specs.Kept.{blank_file, file_of, with_bytes, first_bytes, IsFirst, NoneHas, HasSameFiles, HasGrown, HasGrownFiles, HasRoomBehind, IsDistinct}

@@ -1,5 +1,5 @@
 -- The files that a crash leaves are kept as those of a store are.
-use Rattle.std.proofs.Common.{◌≡◌, ◌≢◌, ◌⊎◌, ◌==◌, ℕ, zero, suc, ◌+◌, ◌-◌, ◌<◌, ◌≤◌, if◌then◌else◌, List, [], ◌∷◌, ◌++◌, length, get_or, take, drop, refl, sym, ap, subst, ◌∙◌, arith, inl, inr}
+use Rattle.std.proofs.Common.{◌≡◌, ◌≢◌, ℕ, zero, suc, ◌<◌, List, [], ◌∷◌, length, get_or, take, drop, refl, sym, ap, subst, ◌∙◌, arith, inl, inr}
 use Rattle.std.proofs.lemmas.List.{nil_from_length, take-append-drop}
 use Rattle.std.proofs.lemmas.Bool.Decides.{eqb_tells}
 use Rattle.std.proofs.lemmas.Grind.{common_steps}
@@ -8,11 +8,9 @@ use Rattle.room_disk.specs.declared.deed.Deed.TheVariants.{Written, Cut, Synced}
 use Rattle.room_disk.specs.declared.part.Part.{Part}
 use Rattle.room_disk.specs.declared.part.Part.TheVariants.{Nothing, All, Spoiled, FirstHalf}
 use Rattle.room_disk.specs.declared.mem_file.MemFile.{MemFile}
-use Rattle.room_disk.specs.Crash.{overlaid}
 use Rattle.room_disk.specs.Crashed.{partly_written, partly_cut, partly_done, all_partly_done, crashed_file, unsynced, rebuilt}
-use Rattle.room_disk.specs.Disk.{Image}
-use Rattle.room_disk.specs.Kept.{blank_file, file_of, first_bytes, Fits, IsKept, AreKept, IsKeptWhole, IsDistinct, NoneHas}
-use Rattle.room_disk.specs.Past.{listed, read_after}
+use Rattle.room_disk.specs.Kept.{blank_file, file_of, first_bytes, Fits, IsKept, IsKeptWhole, IsDistinct}
+use Rattle.room_disk.specs.Past.{listed}
 use Rattle.room_disk.specs.Rebuilding.{CanRebuild, IsRebuilt}
 use Rattle.room_disk.proofs.Files.{if_same, if_other, first_at, listed_first}
 use Rattle.room_disk.proofs.Replaying.{fits_append, crashed_is_rebuilt}

@@ -1,11 +1,11 @@
 -- The deeds since the last sync of a file, done again in part.
-use Rattle.std.proofs.Common.{◌≡◌, ◌≢◌, ◌⊎◌, ◌==◌, ℕ, zero, suc, ◌+◌, ◌-◌, ◌<◌, ◌≤◌, if◌then◌else◌, List, [], ◌∷◌, ◌++◌, length, reverse, get_or, take, drop, refl, sym, ap, subst, ◌∙◌, arith, inl, inr, length-append}
+use Rattle.std.proofs.Common.{◌≡◌, ℕ, suc, ◌+◌, ◌-◌, ◌<◌, ◌≤◌, List, [], ◌∷◌, ◌++◌, length, reverse, get_or, take, drop, refl, sym, ap, subst, ◌∙◌, arith, inl, inr}
 use Rattle.std.proofs.lemmas.List.{reverse-append, take_more, take_at, drop_at, take-append-drop, length-drop, length-reverse}
 use Rattle.std.proofs.lemmas.Bool.Decides.{eqb_tells}
 use Rattle.room_disk.specs.declared.deed.Deed.{Deed}
 use Rattle.room_disk.specs.declared.deed.Deed.TheVariants.{Written, Cut, Synced}
 use Rattle.room_disk.specs.declared.part.Part.{Part}
-use Rattle.room_disk.specs.declared.part.Part.TheVariants.{Nothing, All, Spoiled, FirstHalf}
+use Rattle.room_disk.specs.declared.part.Part.TheVariants.{All}
 use Rattle.room_disk.specs.Disk.{Image}
 use Rattle.room_disk.specs.Kept.{Fits}
 use Rattle.room_disk.specs.Past.{read_after}

@@ -1,5 +1,5 @@
 -- A write in room that holds a file's bytes.
-use Rattle.std.proofs.Common.{◌≡◌, ℕ, ◌+◌, ◌-◌, ◌<◌, ◌≤◌, List, ◌++◌, length, max, take, drop, replicate, rules, arith, get_or, ap, sym, ◌∙◌}
+use Rattle.std.proofs.Common.{◌≡◌, ℕ, ◌+◌, ◌-◌, ◌<◌, ◌≤◌, List, ◌++◌, length, max, take, drop, replicate, arith, ap, sym, ◌∙◌}
 use Rattle.std.proofs.lemmas.List.{places, drop-drop, length-take, length-append, length-replicate}
 use Rattle.std.proofs.lemmas.Grind.{same_number_lists}
 use Rattle.room_disk.specs.Crash.{overlaid}

@@ -5,7 +5,7 @@ use Rattle.room_disk.specs.declared.deed.Deed.TheVariants.{Synced}
 use Rattle.room_disk.specs.Disk.{Image, Quiet}
 use Rattle.room_disk.specs.Laws.{may_leave_read, left_now}
 use Rattle.room_disk.specs.Memory.{StoreInMemory, told_store}
-use Rattle.room_disk.specs.Past.{Past, listed, read_after, MayLeave, MightHaveLeft}
+use Rattle.room_disk.specs.Past.{Past, listed, MayLeave, MightHaveLeft}
 
 leaves_less : (first : Image) (older : List Deed) (synced file : ℕ) (bytes : List ℕ) → MayLeave first (Synced synced ∷ older) file bytes → MayLeave first older file bytes
 leaves_less first older synced file bytes left = elim left [

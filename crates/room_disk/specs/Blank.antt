@@ -1,5 +1,5 @@
 -- A disk on which nothing was ever done.
-use Rattle.std.specs.Prelude.{◌≡◌, ℕ, List, [], IsTrue}
+use Rattle.std.specs.Prelude.{◌≡◌, ℕ, [], IsTrue}
 use Rattle.room_disk.specs.Disk.{DiskView, Image, Settled}
 
 pub record IsBlank (disk : DiskView) : Type 0 where

@@ -3,7 +3,7 @@ use Rattle.std.specs.Prelude.{◌≡◌, ◌≢◌, ◌==◌, ℕ, ◌+◌, ◌<
 use Rattle.room_disk.specs.declared.deed.Deed.{Deed}
 use Rattle.room_disk.specs.declared.deed.Deed.TheVariants.{Written, Cut, Synced}
 use Rattle.room_disk.specs.declared.mem_file.MemFile.{MemFile}
-use Rattle.room_disk.specs.Held.{Held, blank}
+use Rattle.room_disk.specs.Held.{blank}
 use Rattle.room_disk.specs.Disk.{Image}
 use Rattle.room_disk.specs.Past.{listed, read_after}
 

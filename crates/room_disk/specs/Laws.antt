@@ -1,13 +1,12 @@
 -- What is recorded makes a disk.
-use Rattle.std.proofs.Common.{◌≡◌, ◌≢◌, ◌⊎◌, ◌==◌, ℕ, suc, ◌+◌, ◌-◌, ◌<◌, ◌≤◌, max, min, List, [], ◌∷◌, ◌++◌, length, take, drop, replicate, get_or, if◌then◌else◌, refl, sym, ap, subst, ◌∙◌, arith, rules, inl, inr, true}
-use Rattle.std.proofs.lemmas.List.{places, length-take, length-append, length-drop, length-replicate, get_or-take}
-use Rattle.std.proofs.lemmas.Bool.{cases_lt}
+use Rattle.std.proofs.Common.{◌≡◌, ◌≢◌, ◌==◌, ℕ, ◌≤◌, List, [], ◌∷◌, length, take, if◌then◌else◌, refl, arith, inl, inr, true}
+use Rattle.std.proofs.lemmas.List.{places}
 use Rattle.std.proofs.lemmas.Bool.Decides.{eqb_tells}
 use Rattle.room_disk.specs.declared.deed.Deed.{Deed}
 use Rattle.room_disk.specs.declared.deed.Deed.TheVariants.{Written, Cut, Synced}
-use Rattle.room_disk.specs.Disk.{DiskView, IsDisk, Image, Images}
-use Rattle.room_disk.specs.Crash.{overlaid, Torn, CutShort, IsGateLetter}
-use Rattle.room_disk.specs.Past.{Past, listed, read_after, Steps, MayLeave, LeavesImage, MightHaveLeft}
+use Rattle.room_disk.specs.Disk.{IsDisk, Image}
+use Rattle.room_disk.specs.Crash.{overlaid, Torn, CutShort}
+use Rattle.room_disk.specs.Past.{read_after, Steps, MayLeave, LeavesImage, MightHaveLeft}
 
 pub if_same : {A : Type 0} (a b : ℕ) (x y : A) → a ≡ b → (if a == b then x else y) ≡ x
 if_same a b x y same = elim (eqb_tells a b) [ inl is ↦ rw is.0 refl | inr isnt ↦ absurd (isnt.1 same) ]

@@ -1,5 +1,5 @@
 -- A store in memory: what it tells, and when its calls fail.
-use Rattle.std.specs.Prelude.{◌≡◌, ◌⊎◌, ◌↔◌, ◌-◌, ℕ, List, [], length, true, Result, IsOk, IsErr, Option, Some, None}
+use Rattle.std.specs.Prelude.{◌≡◌, ◌⊎◌, ◌↔◌, ◌-◌, ℕ, List, length, true, Result, IsOk, IsErr, Option, Some, None}
 use Rattle.room_base.specs.Calls.{Calls, FailsNext, called}
 use Rattle.room_base.specs.Faults.{risen}
 use Rattle.room_disk.specs.Disk.{DiskView}

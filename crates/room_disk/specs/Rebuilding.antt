@@ -1,5 +1,5 @@
 -- How the files of a store in memory are made those that a crash leaves, in the room that they have.
-use Rattle.std.specs.Prelude.{◌≡◌, ℕ, ◌≤◌, List, length}
+use Rattle.std.specs.Prelude.{◌≡◌, ◌≤◌, List, length}
 use Rattle.room_disk.specs.declared.deed.Deed.{Deed}
 use Rattle.room_disk.specs.declared.mem_file.MemFile.{MemFile}
 use Rattle.room_disk.specs.declared.part.Part.{Part}

@@ -1,5 +1,5 @@
 -- A disk that tells nothing but its counts of faults.
-use Rattle.std.specs.Prelude.{ℕ, List, [], false}
+use Rattle.std.specs.Prelude.{ℕ, [], false}
 use Rattle.room_disk.specs.Disk.{DiskView, IsDisk}
 
 abbrev pub untold_disk : (ℕ → ℕ) → DiskView

@@ -1,5 +1,3 @@
-use Rattle.std.proofs.Common.{◌≤◌, ℕ, sym, subst}
-use Rattle.room_disk.specs.declared.mem_file.MemFile.{MemFile}
 use Rattle.room_disk.proofs.Files.{grown_set, found_room, set_room, distinct_grown}
 use Rattle.room_disk.proofs.mem_file.make_room.Goals as goal
 

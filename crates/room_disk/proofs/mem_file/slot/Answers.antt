@@ -1,4 +1,3 @@
-use Rattle.std.proofs.Common.{rules}
 use Rattle.room_disk.specs.Kept.{NoneHas}
 use Rattle.room_disk.proofs.Files.{pushed, distinct_push}
 use Rattle.room_disk.proofs.mem_file.slot.Goals as goal

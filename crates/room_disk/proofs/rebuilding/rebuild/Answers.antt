@@ -1,6 +1,5 @@
-use Rattle.std.proofs.Common.{ℕ, List, ◌-◌, ◌≡◌, ◌∙◌, length, reverse, take, drop, subst, sym, ap}
+use Rattle.std.proofs.Common.{List, ◌-◌, ◌∙◌, length, reverse, ap}
 use Rattle.room_disk.specs.declared.deed.Deed.{Deed}
-use Rattle.room_disk.specs.Kept.{Fits}
 use Rattle.room_disk.proofs.Replaying.{fits_part, fits_front}
 use Rattle.room_disk.proofs.rebuilding.rebuild.Goals as goal
 

@@ -1,7 +1,7 @@
-use Rattle.std.proofs.Common.{◌≡◌, ◌∙◌, sym, ap, refl, List, ℕ}
+use Rattle.std.proofs.Common.{◌≡◌, ◌∙◌, sym, ap}
 use Rattle.room_disk.specs.declared.mem_file.MemFile.{MemFile}
 use Rattle.room_disk.proofs.Files.{file_at, file_none}
-use Rattle.room_disk.specs.Kept.{file_of, blank_file, IsFirst, NoneHas}
+use Rattle.room_disk.specs.Kept.{file_of, IsFirst, NoneHas}
 use Rattle.room_disk.proofs.history.History.bytes.Goals as goal
 
 pub returns-in-Some : goal.returns-in-Some

@@ -1,11 +1,7 @@
-use Rattle.std.proofs.Common.{◌≡◌, ◌∙◌, ℕ, List, [], ◌++◌, length, take, drop, reverse, sym, ap, subst}
+use Rattle.std.proofs.Common.{◌≡◌, ◌∙◌, List, [], ◌++◌, length, take, drop, reverse, ap}
 use Rattle.std.proofs.lemmas.List.{take_at}
 use Rattle.room_disk.specs.declared.deed.Deed.{Deed}
 use Rattle.room_disk.specs.declared.mem_file.MemFile.{MemFile}
-use Rattle.room_disk.specs.Kept.{first_bytes, IsKeptWhole}
-use Rattle.room_disk.specs.Rebuilding.{CanRebuild}
-use Rattle.room_disk.specs.Crashed.{crashed_file}
-use Rattle.room_disk.specs.Past.{Past, listed}
 use Rattle.room_disk.proofs.Rebuilt.{can_rebuild, leaves_crashed, kept_again, AllRebuilt}
 use Rattle.room_disk.proofs.history.History.crashed.Goals as goal
 

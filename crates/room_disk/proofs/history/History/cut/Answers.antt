@@ -1,10 +1,9 @@
-use Rattle.std.proofs.Common.{◌≡◌, ◌∙◌, sym, ap, refl, List, ℕ, ◌∷◌, [], reverse, set, subst}
+use Rattle.std.proofs.Common.{◌≡◌, ◌∙◌, ap, List, ◌∷◌, [], reverse}
 use Rattle.std.proofs.lemmas.List.{reverse-append}
 use Rattle.room_disk.specs.declared.deed.Deed.{Deed}
 use Rattle.room_disk.specs.declared.deed.Deed.TheVariants.{Cut}
-use Rattle.room_disk.specs.declared.mem_file.MemFile.{MemFile}
 use Rattle.room_disk.specs.Past.{listed}
-use Rattle.room_disk.specs.Kept.{first_bytes, AreKept, IsKept, IsFirst, NoneHas}
+use Rattle.room_disk.specs.Kept.{first_bytes, IsFirst, NoneHas}
 use Rattle.room_disk.proofs.Keeping.{keeps_whole, keeps_first, cut_here, cut_elsewhere, cut_blank}
 use Rattle.room_disk.proofs.history.History.cut.Goals as goal
 

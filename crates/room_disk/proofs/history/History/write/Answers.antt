@@ -1,9 +1,7 @@
-use Rattle.std.proofs.Common.{◌≡◌, ◌∙◌, sym, ap, refl, List, ℕ, ◌+◌, ◌≤◌, ◌∷◌, [], length, reverse, set, subst}
+use Rattle.std.proofs.Common.{◌≡◌, ◌∙◌, ap, List, ℕ, ◌+◌, ◌∷◌, [], length, reverse}
 use Rattle.std.proofs.lemmas.List.{reverse-append}
 use Rattle.room_disk.specs.declared.deed.Deed.{Deed}
 use Rattle.room_disk.specs.declared.deed.Deed.TheVariants.{Written}
-use Rattle.room_disk.specs.declared.mem_file.MemFile.{MemFile}
-use Rattle.room_disk.specs.Past.{listed}
 use Rattle.room_disk.specs.Kept.{first_bytes, IsKeptWhole}
 use Rattle.room_disk.proofs.Files.{has_room}
 use Rattle.room_disk.proofs.Keeping.{write_kept, grown_kept}
