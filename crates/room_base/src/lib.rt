@@ -14,6 +14,7 @@ mod name;
 mod numbers;
 mod real_clock;
 mod refusal;
+mod refusal_text;
 mod set_clock;
 mod sink;
 mod source;

@@ -85,6 +85,15 @@ impl Name {
         })
     }
 
+    /// A name of this text, whatever it is.
+    pub fn from_text(alloc: Global, text: &str) -> Result<Name, Memory>
+        ensures { IfOk result (λ name. name ≡ text.now) }
+    {
+        Ok(Name {
+            text: String::from_str(alloc, text)?,
+        })
+    }
+
     /// The text without bytes, as of a group that isn't given. Takes no memory.
     pub fn empty(alloc: Global) -> Name
         ensures { result ≡ [] }

@@ -6,4 +6,5 @@ pub mod Overlay
 pub mod Rebuilt
 pub mod Replaying
 pub mod Room
+pub mod Runs
 pub mod Syncing

@@ -24,3 +24,9 @@ pub record CutShort (to : ℕ) (old new : List ℕ) : Type 0 where
   pub before : (place : ℕ) → place < to → place < length old → slice_index new place ≡ slice_index old place
   pub no_shorter : min to (length old) ≤ length new
   pub no_longer : length new ≤ length old
+
+-- A gate letter and the bytes behind it, of which the letter is written last: either those bytes are torn
+-- and the gate is as it was, or they are whole and the gate is torn.
+abbrev pub GatedTorn : ℕ → ℕ → List ℕ → List ℕ → List ℕ → Type 0
+GatedTorn at letter rest old new =
+    Torn (at + 1) rest old new ⊎ Torn at (letter ∷ []) (overlaid (at + 1) rest old) new

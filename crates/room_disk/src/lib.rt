@@ -6,6 +6,7 @@ mod deed;
 mod fault_counts;
 mod file_bytes;
 mod folder_store;
+mod gate;
 mod history;
 mod mem_file;
 mod mem_store;
@@ -14,6 +15,7 @@ mod rebuilding;
 mod store;
 
 pub use folder_store::FolderStore;
+pub use gate::{write_gated, write_synced};
 pub use mem_store::MemStore;
 pub use store::Store;
 

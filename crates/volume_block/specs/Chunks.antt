@@ -17,14 +17,22 @@ pub record IsChunk (chunk : ChunkText) : Type 0 where
   pub some : 1 ≤ length chunk.bytes
   pub ends : chunk.offset + length chunk.bytes ≤ 2 ^ 36
 
+-- the bytes of a chunk before those of its stream, of which there are `count`
+abbrev pub chunk_head : ℕ → ℕ → ℕ → ℕ → List ℕ
+chunk_head ssid copy offset count = big_bytes 8 ssid ++ big_bytes 4 copy ++ big_bytes 8 offset ++ big_bytes 4 count
+
 -- how a chunk is spelled
 abbrev pub chunk_text : ChunkText → List ℕ
-chunk_text chunk = big_bytes 8 chunk.ssid ++ big_bytes 4 chunk.copy ++ big_bytes 8 chunk.offset
-    ++ big_bytes 4 (length chunk.bytes) ++ chunk.bytes
+chunk_text chunk = chunk_head chunk.ssid chunk.copy chunk.offset (length chunk.bytes) ++ chunk.bytes
 
 -- how chunks are spelled, one behind the other
 abbrev pub chunks_text : List ChunkText → List ℕ
 chunks_text chunks = flat_map chunk_text chunks
+
+-- the chunks of several blocks, in order
+abbrev pub all_chunks : List (List ChunkText) → List ChunkText
+all_chunks [] = []
+all_chunks (chunks ∷ blocks) = chunks ++ all_chunks blocks
 
 -- The chunks, in their order, are those of one copy from this offset on, and join to these bytes.
 abbrev pub JoinFrom : ℕ → ℕ → ℕ → List ChunkText → List ℕ → Type 0

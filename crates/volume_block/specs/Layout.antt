@@ -12,12 +12,14 @@ head_text kind used volid number =
 abbrev pub padded_payload : List ℕ → List ℕ
 padded_payload payload = payload ++ replicate (4040 - length payload) 0
 
+-- bytes of a head and of a padded payload, with their digest between them
+abbrev pub with_digest : List ℕ → List ℕ → List ℕ
+with_digest head payload = head ++ sha256 (head ++ payload) ++ payload
+
 -- a whole block: its head, its digest, its payload
 unfoldable pub block_text : ℕ → ℕ → ℕ → List ℕ → List ℕ
 block_text kind volid number payload =
-    head_text kind (length payload) volid number
-    ++ sha256 (head_text kind (length payload) volid number ++ padded_payload payload)
-    ++ padded_payload payload
+    with_digest (head_text kind (length payload) volid number) (padded_payload payload)
 
 -- a block whose kind byte is written as closed
 abbrev pub closed : List ℕ → List ℕ

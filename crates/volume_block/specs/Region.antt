@@ -22,6 +22,6 @@ AreBlocks (chunks ∷ blocks) = AreChunks chunks × AreBlocks blocks
 pub record IsSealed (volid mark : ℕ) (blocks : List (List ChunkText)) (region : List ℕ) : Type 0 where
   pub of_volume : IsVolid volid
   pub counted : IsCount (length blocks)
-  pub placed : (1 ≤ mark) × (mark + length blocks < 2 ^ 64)
+  pub placed : (1 ≤ mark) × (mark < 2 ^ 32)
   pub allowed : AreBlocks blocks
   pub text : region ≡ closed (mark_text volid mark (length blocks)) ++ blocks_text volid (mark + 1) blocks ++ closed_block

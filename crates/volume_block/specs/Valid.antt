@@ -24,13 +24,18 @@ pub record IsLabel (label : Label) : Type 0 where
   pub capacity : (67 ≤ label.capacity) × (label.capacity ≤ 1000000)
   pub made : label.made.0 ≤ max_moment
   pub pool_length : (1 ≤ label.pool_length) × (label.pool_length ≤ 64)
+  pub room : length label.pool ≡ 64
   pub pool : IsName (take label.pool_length label.pool)
   pub zeros : drop label.pool_length label.pool ≡ replicate (64 - label.pool_length) 0
 
+-- a label's payload up to the length of its pool
+abbrev pub label_fields : Label → List ℕ
+label_fields label = big_bytes 4 label.cart.0 ++ big_bytes 4 label.capacity ++ big_bytes 8 label.made.0
+    ++ (label.pool_length ∷ [])
+
 -- a label's payload
 abbrev pub label_payload : Label → List ℕ
-label_payload label = big_bytes 4 label.cart.0 ++ big_bytes 4 label.capacity ++ big_bytes 8 label.made.0
-    ++ (label.pool_length ∷ take label.pool_length label.pool)
+label_payload label = label_fields label ++ take label.pool_length label.pool
 
 -- how a label is spelled
 abbrev pub label_text : Label → List ℕ
@@ -53,6 +58,11 @@ pub record AreChunks (chunks : List ChunkText) : Type 0 where
   pub some : chunks ≢ []
   pub fit : length (chunks_text chunks) ≤ 4040
   pub each : All IsChunk chunks
+
+-- the chunks stand in their place in a block's bytes, and fill the first `used` bytes of the payload
+pub record FillPayload (chunks : List ChunkText) (used : ℕ) (bytes : List ℕ) : Type 0 where
+  pub allowed : AreChunks chunks
+  pub text : take used (drop 56 bytes) ≡ chunks_text chunks
 
 -- the bytes are a data block of this volume and number, with these chunks
 pub record HoldsChunks (bytes : List ℕ) (volid number : ℕ) (chunks : List ChunkText) : Type 0 where

@@ -3,7 +3,15 @@
 #![tactic(auto)]
 
 mod block;
+mod encode;
 mod label;
+mod layout;
+mod sealing;
 
 pub use block::{BLOCK_SIZE, BadBlock, Block, Chunk, MAX_FILE_BLOCKS, PAYLOAD_SIZE, Reason};
+pub use encode::{encode_label, encode_mark, seal_data, write_chunk_head};
 pub use label::{Label, MAX_CAPACITY, MAX_CART, MIN_CAPACITY};
+pub use layout::{CHUNK_HEAD_SIZE, PAYLOAD_START};
+
+#[cfg(test)]
+mod tests;

@@ -1,13 +1,8 @@
-// A library with one function.
+//! Volumes on cartridges: labelling, and commits of files. docs/formats.md has the sequences of writes.
 #![tactic(auto)]
 
-ghost use Rattle.std.specs.Prelude.{◌≡◌};
-ghost use Rattle.volume_store.specs.Echo.{echo_of};
+mod commit;
+mod label;
 
-// The `ensures` clause is the contract: what `echo` returns is `echo_of` of its argument, a definition
-// in `specs/Echo.antt`, which a caller's clause can cite too.
-pub fn echo(x: usize) -> usize
-    ensures { result ≡ echo_of x }
-{
-    x
-}
+pub use commit::Volume;
+pub use label::{Found, read_label, write_label};

@@ -1,0 +1,5 @@
+pub mod Filling
+pub mod Numbers
+pub mod PutRuns
+pub mod RawLabel
+pub mod TakenInput

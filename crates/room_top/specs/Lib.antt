@@ -1,0 +1,4 @@
+pub mod Put
+pub mod Raw
+pub mod Stages
+pub mod Words

@@ -1,0 +1,52 @@
+-- The words of the program.
+use Rattle.std.specs.Prelude.{◌≡◌, ◌≢◌, ◌⊎◌, ℕ, List, [], ◌∷◌, codes, Result, Ok, Err}
+use Rattle.std.specs.Fmt.{decimal}
+use Rattle.volume_store.specs.Writes.{IsCart}
+use Rattle.room_top.specs.declared.status.Status.{Status}
+use Rattle.room_top.specs.declared.status.Status.TheVariants as status
+use Rattle.room_top.specs.declared.words.Command.{Command}
+use Rattle.room_top.specs.declared.words.Command.TheVariants as commands
+
+-- the word is the number of a cartridge, in digits without a leading zero
+abbrev pub IsCartWord : List ℕ → ℕ → Type 0
+IsCartWord word cart = IsCart cart × (word ≡ decimal cart)
+
+abbrev pub IsNoCartWord : List ℕ → Type 0
+IsNoCartWord word = (cart : ℕ) → IsCartWord word cart → ⊥
+
+-- the words are `put` and a cartridge
+abbrev pub ArePut : List (List ℕ) → ℕ → Type 0
+ArePut words cart = IsCart cart × (words ≡ codes "put" ∷ decimal cart ∷ [])
+
+-- the first word behind `put` that doesn't fit, or the empty text where one is missing
+abbrev pub PutMisfit : List (List ℕ) → List ℕ → Type 0
+PutMisfit [] word = word ≡ []
+PutMisfit (cart ∷ []) word = IsNoCartWord cart × (word ≡ cart)
+PutMisfit (cart ∷ more ∷ rest) word =
+    (IsNoCartWord cart × (word ≡ cart)) ⊎ (((number : ℕ) × IsCartWord cart number) × (word ≡ more))
+
+-- the first word that doesn't fit, or the empty text where one is missing
+abbrev pub Misfit : List (List ℕ) → List ℕ → Type 0
+Misfit [] word = word ≡ []
+Misfit (command ∷ rest) word =
+    ((command ≢ codes "put") × (word ≡ command)) ⊎ ((command ≡ codes "put") × PutMisfit rest word)
+
+-- reading the words gives the command that they are, or the word that doesn't fit
+abbrev pub ReadsWords : List (List ℕ) → Result Command Status → Type 0
+ReadsWords words (Ok (commands.Put cart)) = ArePut words cart.0
+ReadsWords words (Err (status.Usage word)) = Misfit words word
+ReadsWords words (Err status.Memory) = Unit {0}
+ReadsWords words (Err other) = ⊥
+
+-- the same behind `put`
+abbrev pub ReadsPut : List (List ℕ) → Result Command Status → Type 0
+ReadsPut words (Ok (commands.Put cart)) = IsCart cart.0 × (words ≡ decimal cart.0 ∷ [])
+ReadsPut words (Err (status.Usage word)) = PutMisfit words word
+ReadsPut words (Err status.Memory) = Unit {0}
+ReadsPut words (Err other) = ⊥
+
+-- the status for a word that doesn't fit, or want of memory
+abbrev pub IsMisfit : List ℕ → Status → Type 0
+IsMisfit word (status.Usage shown) = shown ≡ word
+IsMisfit word status.Memory = Unit {0}
+IsMisfit word other = ⊥

@@ -1,0 +1,28 @@
+//! Where the parts of a block stand, and the bytes that name its kind.
+
+/// The kind byte of a label.
+pub(crate) const LABEL_KIND: u8 = b'L';
+
+/// The kind byte of a mark.
+pub(crate) const MARK_KIND: u8 = b'F';
+
+/// The kind byte of a data block.
+pub(crate) const DATA_KIND: u8 = b'D';
+
+/// The one form of blocks that there is.
+pub(crate) const FORM: u8 = 1;
+
+/// The bytes of a block before its digest: kind, form, used length, volid and number.
+pub(crate) const HEAD_SIZE: usize = 24;
+
+/// Where a block's payload begins, behind the head and the digest.
+pub const PAYLOAD_START: usize = 56;
+
+/// The bytes of a label's payload before those of its pool.
+pub(crate) const LABEL_FIELDS_SIZE: u8 = 17;
+
+/// The bytes of a mark's payload.
+pub(crate) const MARK_USED: u32 = 4;
+
+/// The bytes of a chunk before those of its stream.
+pub const CHUNK_HEAD_SIZE: usize = 24;

@@ -1,0 +1,86 @@
+ghost use Rattle.std.specs.Prelude.{◌≤◌, length};
+ghost use Rattle.volume_block.specs.Valid.{IsLabel};
+
+use super::*;
+use room_base::{Cart, CopyNo, Moment, Ssid, Volid};
+use std::test::*;
+
+const RAW_VOLID: Volid = Volid(9_223_372_036_854_775_809);
+
+// The digests were computed by another program.
+const LABEL_FRONT: [u8; 76] = [
+    0x4c, 1, 0, 0, 0, 0, 0, 20, 0x80, 0, 0, 0, 0, 0, 0, 1, 0, 0, 0, 0, 0, 0, 0, 0, 0xc9, 0x49,
+    0xf0, 0x8a, 0xfa, 0x71, 0x97, 0x04, 0xeb, 0xba, 0xa9, 0x57, 0x1d, 0xe3, 0x1f, 0x5f, 0x20, 0x2f,
+    0xb9, 0xdc, 0x12, 0xcf, 0x05, 0xb5, 0xdf, 0x60, 0x4b, 0xe4, 0xe8, 0x8f, 0x06, 0x63, 0, 0, 0, 1,
+    0x00, 0x0f, 0x42, 0x40, 0, 0, 0, 0, 0x65, 0x53, 0xf1, 0x00, 3, b'R', b'a', b'w',
+];
+
+const MARK_FRONT: [u8; 60] = [
+    0x46, 1, 0, 0, 0, 0, 0, 4, 0x80, 0, 0, 0, 0, 0, 0, 1, 0, 0, 0, 0, 0, 0, 0, 1, 0x83, 0x6e, 0xd4,
+    0x5f, 0xb6, 0x94, 0x36, 0x0a, 0x44, 0x05, 0xb7, 0x51, 0x57, 0x17, 0x93, 0xc1, 0x6d, 0x5d, 0x66,
+    0x1b, 0x31, 0x76, 0xbf, 0xfa, 0x4d, 0xed, 0x9d, 0x75, 0x87, 0x6e, 0x20, 0xf6, 0, 0, 0, 1,
+];
+
+const DATA_FRONT: [u8; 83] = [
+    0x44, 1, 0, 0, 0, 0, 0, 27, 0x80, 0, 0, 0, 0, 0, 0, 1, 0, 0, 0, 0, 0, 0, 0, 2, 0xca, 0x38,
+    0x3a, 0x73, 0x2b, 0xba, 0xf0, 0xfd, 0xab, 0xf1, 0xc3, 0x3c, 0x65, 0xcd, 0x8a, 0xb3, 0x72, 0xa4,
+    0x42, 0xbe, 0x29, 0x1b, 0x89, 0xcf, 0xb4, 0xf2, 0x7e, 0xce, 0x8a, 0xd9, 0x35, 0x6b, 0, 0, 0, 0,
+    0, 0, 0, 1, 0, 0, 0, 1, 0, 0, 0, 0, 0, 0, 0, 0, 0, 0, 0, 3, b'a', b'b', b'c',
+];
+
+// The name `Raw` with the zeros behind it.
+const POOL: [u8; 64] = [
+    b'R', b'a', b'w', 0, 0, 0, 0, 0, 0, 0, 0, 0, 0, 0, 0, 0, 0, 0, 0, 0, 0, 0, 0, 0, 0, 0, 0, 0, 0,
+    0, 0, 0, 0, 0, 0, 0, 0, 0, 0, 0, 0, 0, 0, 0, 0, 0, 0, 0, 0, 0, 0, 0, 0, 0, 0, 0, 0, 0, 0, 0, 0,
+    0, 0, 0,
+];
+
+fn raw_label() -> Label
+    ensures { IsLabel result }
+{
+    Label {
+        volid: RAW_VOLID,
+        cart: Cart(1),
+        capacity: 1_000_000,
+        made: Moment(1_700_000_000),
+        pool_length: 3,
+        pool: POOL,
+    }
+}
+
+// The block is this front, and zeros.
+fn is_front(block: &[u8], front: &[u8]) -> bool
+    requires { length front.now ≤ length block.now }
+{
+    let (begin, rest) = block.split_at(front.len());
+    begin == front && rest.iter().all(|byte| *byte == 0)
+}
+
+#[test]
+fn label(rt: HostRuntime) {
+    let mut block = [0xFFu8; BLOCK_SIZE];
+    encode_label(&raw_label(), &mut block);
+    assert!(rt; is_front(&block, &LABEL_FRONT));
+}
+
+#[test]
+fn mark(rt: HostRuntime) {
+    let mut block = [0xFFu8; BLOCK_SIZE];
+    encode_mark(RAW_VOLID, 1, 1, &mut block);
+    assert!(rt; is_front(&block, &MARK_FRONT));
+}
+
+#[test]
+fn data_block(rt: HostRuntime) {
+    let mut block = [0xFFu8; BLOCK_SIZE];
+    put_abc(&mut block[PAYLOAD_START..]);
+    seal_data(RAW_VOLID, 2, 27, &mut block);
+    assert!(rt; is_front(&block, &DATA_FRONT));
+}
+
+fn put_abc(payload: &mut [u8])
+    requires { 27 ≤ length payload.old }
+{
+    write_chunk_head(Ssid(1), CopyNo(1), 0, 3, payload);
+    payload[CHUNK_HEAD_SIZE..CHUNK_HEAD_SIZE + 3].copy_from_slice(b"abc");
+}

@@ -1,0 +1,102 @@
+-- A label and the closed block behind it, as they are written.
+use Rattle.std.proofs.Common.{◌≡◌, ◌⊎◌, inl, inr, subst, ℕ, ◌+◌, ◌-◌, ◌<◌, List, [], ◌∷◌, ◌++◌, length, drop, replicate, get_or, refl, sym, ap, ◌∙◌, arith}
+use Rattle.std.proofs.lemmas.List.{append_assoc, length-append, length-take, drop-drop, ext_get_or}
+use Rattle.std.proofs.lemmas.Bool.{cases_eq, cases_lt}
+use Rattle.volume_block.specs.Layout.{block_text}
+use Rattle.volume_block.specs.Valid.{IsLabel, label_text, label_payload}
+use Rattle.volume_block.specs.Region.{closed_block}
+use Rattle.volume_block.specs.declared.label.Label.{Label}
+use Rattle.volume_block.proofs.Lengths.{length-block_text, length-closed_block}
+use Rattle.room_disk.specs.Crash.{overlaid, Torn, GatedTorn}
+use Rattle.room_disk.proofs.Overlay.{letter_whole}
+use Rattle.volume_store.specs.Committed.{block_at, kind_at, Committed, Unlabelled}
+use Rattle.volume_store.specs.Writes.{labelled, without_files, IsClosed, IsOpening}
+use Rattle.volume_store.proofs.Blocks.{block_behind, byte_behind}
+use Rattle.volume_store.proofs.Committing.{first_zero}
+
+-- a file with a first byte that isn't zero isn't empty
+omega_some : (old : List ℕ) → get_or old 0 0 ≡ 0x4C → 0 < length old
+omega_some [] first = absurd (omega (arith, first))
+omega_some (byte ∷ rest) first = omega arith
+
+-- a torn single byte that reads as before
+untouched : (old new : List ℕ) → Torn 0 (0 ∷ []) old new → get_or new 0 0 ≡ get_or old 0 0 → 0 < length old → new ≡ old
+untouched old new torn kept some = ext_get_or 0 _ _
+    (omega (arith, torn.no_shorter, torn.no_longer))
+    (λ k h. elim (cases_lt 0 k) [
+        inl later ↦ torn.behind k (omega arith) (omega (arith, torn.no_longer))
+      | inr first ↦ (let here : k ≡ 0 = omega arith in rw here kept) ])
+
+-- bytes written at the front of a file
+pub overlaid_first : (text file : List ℕ) (long : ℕ) → length text ≡ long → overlaid 0 text file ≡ text ++ drop long file
+overlaid_first text file long is =
+    let none : 0 - length file ≡ 0 = omega arith in
+    let from : 0 + length text ≡ long = omega (arith, is) in
+    ap (λ count. replicate {A = ℕ} count 0 ++ text ++ drop (0 + length text) file) none ∙ ap (λ count. text ++ drop count file) from
+
+pub length-label_text : (label : Label) → IsLabel label → length (label_text label) ≡ 4096
+length-label_text label allowed =
+    length-block_text 0x4C label.volid.0 0 (label_payload label)
+        (omega (arith, length-take label.pool_length label.pool, allowed.pool_length.1))
+
+-- the gate letter in front of the rest
+pub label_gate : (label : Label) (rest : List ℕ) → 0x4C ∷ drop 1 (label_text label ++ rest) ≡ label_text label ++ rest
+unfolding block_text
+label_gate label rest = refl
+
+pub opens_labelled : (label : Label) (blocks rest old : List ℕ) → length (label_text label) ≡ 4096
+    → blocks ≡ label_text label ++ closed_block → rest ≡ drop 1 blocks → overlaid 0 (0x4C ∷ rest) old ≡ labelled label old
+opens_labelled label blocks rest old long whole behind =
+    ap (λ text. overlaid 0 (0x4C ∷ text) old) (behind ∙ ap (drop 1) whole)
+    ∙ ap (λ text. overlaid 0 text old) (label_gate label closed_block)
+    ∙ overlaid_first (label_text label ++ closed_block) old 8192 (omega (arith, length-append (label_text label) closed_block, long, length-closed_block))
+
+-- a labelled cartridge has the label and no file
+pub labelled_empty : (label : Label) (old : List ℕ) → IsLabel label → Committed (labelled label old) (without_files label)
+labelled_empty label old allowed =
+    let text = label_text label in
+    let long : length text ≡ 4096 = length-label_text label allowed in
+    let split : labelled label old ≡ [] ++ text ++ (closed_block ++ drop 8192 old) = append_assoc text closed_block (drop 8192 old) in
+    let next : labelled label old ≡ text ++ 0 ∷ (replicate 4095 0 ++ drop 8192 old) =
+        append_assoc text closed_block (drop 8192 old) ∙ ap (λ zeros. text ++ (zeros ++ drop 8192 old)) (first_zero 4095) in
+    ((allowed, refl, refl, ap (λ bytes. block_at bytes 0) split ∙ block_behind 0 [] text (closed_block ++ drop 8192 old) refl long),
+     (refl, rw next (omega (arith, long, length-append text (0 ∷ (replicate 4095 0 ++ drop 8192 old)))),
+      λ opens. (let zero_byte : kind_at (labelled label old) 1 ≡ 0 =
+            ap (λ bytes. kind_at bytes 1) next ∙ byte_behind 4096 0 text (replicate 4095 0 ++ drop 8192 old) long in
+        absurd (omega (arith, sym zero_byte ∙ opens)))))
+
+-- a cartridge whose first byte was written as zero is closed
+pub cleared : (old new : List ℕ) → new ≡ overlaid 0 (0 ∷ []) old → IsClosed new
+cleared old new is =
+    let front : new ≡ 0 ∷ drop 1 old = is ∙ overlaid_first (0 ∷ []) old 1 refl in
+    (rw front (omega arith), λ opens. (let first : get_or new 0 0 ≡ 0 = ap (λ bytes. get_or bytes 0 0) front in absurd (omega (arith, sym first ∙ opens))))
+
+-- closing keeps what stands behind the first byte
+pub labelled_closed : (label : Label) (old : List ℕ) → labelled label (overlaid 0 (0 ∷ []) old) ≡ labelled label old
+labelled_closed label old =
+    ap (λ bytes. label_text label ++ closed_block ++ bytes)
+    (ap (drop 8192) (overlaid_first (0 ∷ []) old 1 refl) ∙ drop-drop 8191 1 old)
+
+-- the images of closing a cartridge
+pub closing_torn : (old new : List ℕ) → Torn 0 (0 ∷ []) old new → (new ≡ old) ⊎ Committed new Unlabelled
+closing_torn old new torn =
+    elim (cases_eq (get_or new 0 0) 0x4C) [
+        inr closed ↦ inr closed
+      | inl opens ↦ elim (torn.gate 0 refl (inr (inr (inl opens)))) [
+            inl cleared ↦ absurd (omega (arith, opens, cleared))
+          | inr kept ↦ inl (untouched old new torn kept (omega_some old (sym kept ∙ opens))) ] ]
+
+-- the images of opening a label
+pub opening_torn : (label : Label) (old new blocks rest : List ℕ) → IsLabel label → IsClosed old
+    → blocks ≡ label_text label ++ closed_block → rest ≡ drop 1 blocks
+    → GatedTorn 0 0x4C rest old new → IsOpening label new
+opening_torn label old new blocks rest allowed closed whole behind (inl torn) =
+    inl (λ opens. closed.1 (sym (torn.before 0 (omega arith) closed.0) ∙ opens))
+opening_torn label old new blocks rest allowed closed whole behind (inr torn) =
+    elim (cases_eq (get_or new 0 0) 0x4C) [
+        inr shut ↦ inl shut
+      | inl opens ↦ inr (
+            let P : List ℕ → Type 0 = λ bytes. Committed bytes (without_files label) in
+            subst P (sym (letter_whole 0 0x4C rest old new torn opens
+                ∙ opens_labelled label blocks rest old (length-label_text label allowed) whole behind))
+            (labelled_empty label old allowed)) ]

@@ -1,0 +1,71 @@
+-- What stands on a cartridge: its label, and its committed files.
+use Rattle.std.specs.Prelude.{◌≡◌, ◌≢◌, ◌⊎◌, ℕ, ◌+◌, ◌*◌, ◌≤◌, ◌<◌, List, [], ◌∷◌, length, take, drop, slice_index}
+use Rattle.volume_block.specs.Chunks.{ChunkText}
+use Rattle.volume_block.specs.Valid.{ValidBlock, HoldsChunks}
+use Rattle.volume_block.specs.declared.label.Label.{Label}
+use Rattle.volume_block.specs.declared.block.Block.TheVariants as kinds
+
+-- the bytes of a block, of which there are fewer where the file ends inside it
+unfoldable pub block_at : List ℕ → ℕ → List ℕ
+block_at bytes number = take 4096 (drop (4096 * number) bytes)
+
+-- the kind byte of a block, 0 where the file ends before it
+abbrev pub kind_at : List ℕ → ℕ → ℕ
+kind_at bytes number = slice_index bytes (4096 * number)
+
+-- a data place of a committed file: a valid data block with its chunks, or a damaged one
+pub data Place : Type 0 where
+  Whole : List ChunkText → Place
+  Damaged : Place
+
+abbrev pub IsPlace : List ℕ → ℕ → ℕ → Place → Type 0
+IsPlace bytes volid number (Whole chunks) = HoldsChunks (block_at bytes number) volid number chunks
+IsPlace bytes volid number Damaged = (chunks : List ChunkText) → HoldsChunks (block_at bytes number) volid number chunks → ⊥
+
+-- data places one behind the other, numbered from `first`
+abbrev pub ArePlaces : List ℕ → ℕ → ℕ → List Place → Type 0
+ArePlaces bytes volid first [] = Unit {0}
+ArePlaces bytes volid first (place ∷ places) = IsPlace bytes volid first place × ArePlaces bytes volid (first + 1) places
+
+-- a committed file: where its mark stands, and its data places
+pub record CommittedFile : Type 0 where
+  pub mark : ℕ
+  pub places : List Place
+
+-- where the committed files end: at a closed mark place, or at one that is invalid or not there
+pub data End : Type 0 where
+  Closed : ℕ → End
+  Stop : ℕ → End
+
+abbrev pub EndsAt : List ℕ → ℕ → ℕ → End → Type 0
+EndsAt bytes volid mark (Closed place) =
+    (place ≡ mark) × (4096 * mark < length bytes) × (kind_at bytes mark ≢ 0x46)
+EndsAt bytes volid mark (Stop place) = (place ≡ mark)
+    × ((length bytes ≤ 4096 * mark)
+        ⊎ ((kind_at bytes mark ≡ 0x46)
+            × ((count : ℕ) → ValidBlock (block_at bytes mark) volid mark (kinds.Mark count) → ⊥)))
+
+-- The files from this mark place on, and their end. Each has a valid open mark with the count of its data
+-- places, and the next mark place is behind the last of these.
+abbrev pub FilesFrom : List ℕ → ℕ → ℕ → List CommittedFile → End → Type 0
+FilesFrom bytes volid mark [] end = EndsAt bytes volid mark end
+FilesFrom bytes volid mark (file ∷ files) end = (file.mark ≡ mark)
+    × ValidBlock (block_at bytes mark) volid mark (kinds.Mark (length file.places))
+    × ArePlaces bytes volid (mark + 1) file.places
+    × FilesFrom bytes volid (mark + length file.places + 1) files end
+
+-- what a cartridge is
+pub data Contents : Type 0 where
+  -- blank, or closed: byte 0 isn't `L`
+  Unlabelled : Contents
+  -- byte 0 is `L`, and block 0 is no valid label
+  BadLabel : Contents
+  Labelled : Label → List CommittedFile → End → Contents
+
+abbrev pub HasLabel : List ℕ → Label → Type 0
+HasLabel bytes label = ValidBlock (block_at bytes 0) label.volid.0 0 (kinds.Label label)
+
+abbrev pub Committed : List ℕ → Contents → Type 0
+Committed bytes Unlabelled = slice_index bytes 0 ≢ 0x4C
+Committed bytes BadLabel = (slice_index bytes 0 ≡ 0x4C) × ((label : Label) → HasLabel bytes label → ⊥)
+Committed bytes (Labelled label files end) = HasLabel bytes label × FilesFrom bytes label.volid.0 1 files end

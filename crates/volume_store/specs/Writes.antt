@@ -1,0 +1,63 @@
+-- What labelling and committing write.
+use Rattle.std.specs.Prelude.{◌≡◌, ◌≢◌, ◌⊎◌, ℕ, ◌+◌, ◌≤◌, ◌<◌, List, [], ◌∷◌, ◌++◌, length, map, drop, slice_index}
+use Rattle.volume_block.specs.Chunks.{ChunkText}
+use Rattle.volume_block.specs.Valid.{label_text}
+use Rattle.volume_block.specs.Region.{closed_block}
+use Rattle.volume_block.specs.declared.label.Label.{Label}
+use Rattle.volume_store.specs.Committed.{Whole, CommittedFile, Closed, Contents, Unlabelled, Labelled, Committed}
+use Rattle.volume_store.specs.declared.label.Found.{Found}
+use Rattle.volume_store.specs.declared.label.Found.TheVariants as found
+
+-- the file of a cartridge
+abbrev pub file_of : ℕ → ℕ
+file_of cart = cart + 1
+
+-- there is such a cartridge
+abbrev pub IsCart : ℕ → Type 0
+IsCart cart = (1 ≤ cart) × (cart ≤ 256)
+
+-- a region whose mark is open
+abbrev pub opened : List ℕ → List ℕ
+opened [] = []
+opened (kind ∷ rest) = 0x46 ∷ rest
+
+-- the file that a commit of these blocks adds
+abbrev pub added_file : ℕ → List (List ChunkText) → CommittedFile
+added_file mark blocks = record { mark = mark; places = map Whole blocks }
+
+-- a cartridge with that file behind the others
+abbrev pub with_file : Label → List CommittedFile → ℕ → List (List ChunkText) → Contents
+with_file label files mark blocks =
+    Labelled label (files ++ added_file mark blocks ∷ []) (Closed (mark + length blocks + 1))
+
+-- the cartridge has the old files, or these and the one that is committed
+abbrev pub IsWholeOrAbsent : Label → List CommittedFile → ℕ → List (List ChunkText) → List ℕ → Type 0
+IsWholeOrAbsent label files mark blocks bytes =
+    Committed bytes (Labelled label files (Closed mark)) ⊎ Committed bytes (with_file label files mark blocks)
+
+-- a cartridge with a new label, and what stood behind its first two blocks
+abbrev pub labelled : Label → List ℕ → List ℕ
+labelled label old = (label_text label ++ closed_block) ++ drop 8192 old
+
+-- a cartridge with this label and no file
+abbrev pub without_files : Label → Contents
+without_files label = Labelled label [] (Closed 1)
+
+-- while a cartridge is labelled it is as it was, or has no label, or has the new label and no file
+abbrev pub IsBeingLabelled : Label → List ℕ → List ℕ → Type 0
+IsBeingLabelled label old bytes =
+    (bytes ≡ old) ⊎ Committed bytes Unlabelled ⊎ Committed bytes (without_files label)
+
+-- there are bytes, and the first isn't `L`
+abbrev pub IsClosed : List ℕ → Type 0
+IsClosed bytes = (0 < length bytes) × (slice_index bytes 0 ≢ 0x4C)
+
+-- while a closed cartridge gets its label it has none, or has the new label and no file
+abbrev pub IsOpening : Label → List ℕ → Type 0
+IsOpening label bytes = Committed bytes Unlabelled ⊎ Committed bytes (without_files label)
+
+-- what is found where a label stands
+abbrev pub Finds : List ℕ → Found → Type 0
+Finds bytes found.Blank = length bytes ≡ 0
+Finds bytes found.Closed = IsClosed bytes
+Finds bytes found.Open = slice_index bytes 0 ≡ 0x4C

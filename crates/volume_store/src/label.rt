@@ -1,0 +1,121 @@
+ghost use Rattle.std.specs.Prelude.{◌≡◌, ◌+◌, ◌-◌, ◌<◌, ◌≤◌, [], ◌∷◌, ◌++◌, length, drop, IfOk, OnOk};
+ghost use Rattle.room_base.specs.Outside.{Told};
+ghost use Rattle.room_disk.specs.Disk.{Quiet, Others, Settled, Leaves, OnFile, FileCause};
+ghost use Rattle.room_disk.specs.Crash.{overlaid, Torn};
+ghost use Rattle.volume_block.specs.Valid.{IsLabel, label_text};
+ghost use Rattle.volume_block.specs.Region.{closed_block};
+ghost use Rattle.volume_store.specs.Writes.{file_of, IsCart, IsClosed, Finds, labelled, without_files, IsBeingLabelled, IsOpening};
+ghost use Rattle.volume_store.specs.Committed.{Committed};
+
+use room_base::{Cart, Failed};
+use room_disk::{Store, write_gated, write_synced};
+use volume_block::{BLOCK_SIZE, Label, encode_label};
+
+/// What stands where a cartridge's label is.
+#[derive(Clone, Copy, Debug, PartialEq, Eq)]
+pub enum Found {
+    /// The cartridge was never written.
+    Blank,
+    /// It has no label.
+    Closed,
+    /// It has one.
+    Open,
+}
+
+/// The byte that opens a label.
+const LABEL_GATE: u8 = b'L';
+
+/// Looks for the label of a cartridge. It syncs the cartridge first, so that what it finds stays.
+pub fn read_label<D: Store>(store: &mut D, cart: Cart) -> Result<Found, Failed>
+    requires { IsCart cart.0 }
+    ensures cause { FileCause (file_of cart.0) (D.view store.old) (D.view store.new) result }
+    ensures tells { (D.view store.new).tells ≡ (D.view store.old).tells }
+    ensures quiet { Told (D.view store.old).tells (Quiet (D.view store.old) (D.view store.new)) }
+    ensures settled { Told (D.view store.old).tells (OnOk result (Settled (D.view store.new) (file_of cart.0))) }
+    ensures found { Told (D.view store.old).tells
+        (IfOk result (λ found. Finds ((D.view store.old).reads (file_of cart.0)) found)) }
+{
+    let file = cart.0 + 1;
+    store.sync(file)?;
+    let mut kind = [0];
+    let count = store.read_at(file, 0, &mut kind)?;
+    Ok(if count == 0 {
+        Found::Blank
+    } else if kind[0] == LABEL_GATE {
+        Found::Open
+    } else {
+        Found::Closed
+    })
+}
+
+/// Writes a label on its cartridge, whose files are then gone. After `Failed` the cartridge may have no
+/// label.
+pub fn write_label<D: Store>(store: &mut D, label: &Label) -> Result<(), Failed>
+    requires { IsLabel label.now }
+    ensures cause { FileCause (file_of label.now.cart.0) (D.view store.old) (D.view store.new) result }
+    ensures tells { (D.view store.new).tells ≡ (D.view store.old).tells }
+    ensures others { Told (D.view store.old).tells
+        (Others (file_of label.now.cart.0) (D.view store.old) (D.view store.new)) }
+    ensures written { Told (D.view store.old).tells (OnOk result
+        ((D.view store.new).reads (file_of label.now.cart.0)
+            ≡ labelled label.now ((D.view store.old).reads (file_of label.now.cart.0)))) }
+    ensures empty { Told (D.view store.old).tells (OnOk result
+        (Committed ((D.view store.new).reads (file_of label.now.cart.0)) (without_files label.now))) }
+    ensures settled { Told (D.view store.old).tells
+        (OnOk result (Settled (D.view store.new) (file_of label.now.cart.0))) }
+    // At every moment of the call a crash leaves the cartridge as it was, without a label, or with the
+    // new label and no file.
+    ensures moments { Told (D.view store.old).tells (Settled (D.view store.old) (file_of label.now.cart.0)
+        → Leaves (D.view store.old) (D.view store.new) (OnFile (file_of label.now.cart.0)
+            (IsBeingLabelled label.now ((D.view store.old).reads (file_of label.now.cart.0))) (D.view store.old))) }
+{
+    let file = label.cart.0 + 1;
+    close_label(store, file)?;
+    open_label(store, file, label)
+}
+
+// Closes the cartridge, so that nothing on it counts.
+fn close_label<D: Store>(store: &mut D, file: u32) -> Result<(), Failed>
+    ensures cause { FileCause file (D.view store.old) (D.view store.new) result }
+    ensures tells { (D.view store.new).tells ≡ (D.view store.old).tells }
+    ensures others { Told (D.view store.old).tells (Others file (D.view store.old) (D.view store.new)) }
+    ensures written { Told (D.view store.old).tells (OnOk result
+        ((D.view store.new).reads file ≡ overlaid 0 (0 ∷ []) ((D.view store.old).reads file))) }
+    ensures settled { Told (D.view store.old).tells (OnOk result (Settled (D.view store.new) file)) }
+    ensures moments { Told (D.view store.old).tells (Settled (D.view store.old) file
+        → Leaves (D.view store.old) (D.view store.new)
+            (OnFile file (Torn 0 (0 ∷ []) ((D.view store.old).reads file)) (D.view store.old))) }
+{
+    write_synced(store, file, 0, &[0])
+}
+
+// Writes the label and a closed block behind it, and then opens the label.
+fn open_label<D: Store>(store: &mut D, file: u32, label: &Label) -> Result<(), Failed>
+    requires { IsLabel label.now }
+    ensures cause { FileCause file (D.view store.old) (D.view store.new) result }
+    ensures tells { (D.view store.new).tells ≡ (D.view store.old).tells }
+    ensures others { Told (D.view store.old).tells (Others file (D.view store.old) (D.view store.new)) }
+    ensures written { Told (D.view store.old).tells (OnOk result
+        ((D.view store.new).reads file ≡ labelled label.now ((D.view store.old).reads file))) }
+    ensures settled { Told (D.view store.old).tells (OnOk result (Settled (D.view store.new) file)) }
+    ensures moments { Told (D.view store.old).tells (Settled (D.view store.old) file
+        → IsClosed ((D.view store.old).reads file)
+        → Leaves (D.view store.old) (D.view store.new)
+            (OnFile file (IsOpening label.now) (D.view store.old))) }
+{
+    let mut blocks = [0; 2 * BLOCK_SIZE];
+    fill_label_blocks(label, &mut blocks);
+    let (_, rest) = blocks.split_at(1);
+    write_gated(store, file, 0, LABEL_GATE, rest)
+}
+
+// The first two blocks of a labelled cartridge without files.
+fn fill_label_blocks(label: &Label, blocks: &mut [u8])
+    requires allowed { IsLabel label.now }
+    requires whole { length blocks.old ≡ 8192 }
+    ensures { blocks.new ≡ label_text label.now ++ closed_block }
+{
+    let (first, second) = blocks.split_at_mut(BLOCK_SIZE);
+    encode_label(label, first);
+    second.fill(0);
+}
