@@ -1,2 +1,10 @@
+pub mod Beginning
+pub mod Crashing
+pub mod Files
+pub mod Keeping
 pub mod Overlay
+pub mod Rebuilt
+pub mod Replaying
+pub mod Room
 pub mod Runs
+pub mod Syncing

@@ -1,5 +1,5 @@
 -- What a write and a cut do to a file's bytes, and what a crash may leave of them.
-use Rattle.std.specs.Prelude.{◌≡◌, ◌⊎◌, ℕ, ◌+◌, ◌-◌, ◌<◌, ◌≤◌, max, List, [], ◌∷◌, ◌++◌, length, take, drop, replicate, slice_index}
+use Rattle.std.specs.Prelude.{◌≡◌, ◌⊎◌, ℕ, ◌+◌, ◌-◌, ◌<◌, ◌≤◌, max, min, List, [], ◌∷◌, ◌++◌, length, take, drop, replicate, slice_index}
 
 -- the file with the bytes written at a place; where that is past the end, zeros come between
 abbrev pub overlaid : ℕ → List ℕ → List ℕ → List ℕ
@@ -17,12 +17,12 @@ pub record Torn (at : ℕ) (bytes old new : List ℕ) : Type 0 where
   pub no_shorter : length old ≤ length new
   pub no_longer : length new ≤ max (length old) (at + length bytes)
   pub gate : (letter : ℕ) → bytes ≡ letter ∷ [] → IsGateLetter (slice_index new at)
-    → (slice_index new at ≡ letter) ⊎ (slice_index new at ≡ slice_index old at)
+      → (slice_index new at ≡ letter) ⊎ (slice_index new at ≡ slice_index old at)
 
 -- A cut that may have been cut short itself: some length between, any bytes in the part that was to go.
 pub record CutShort (to : ℕ) (old new : List ℕ) : Type 0 where
   pub before : (place : ℕ) → place < to → place < length old → slice_index new place ≡ slice_index old place
-  pub no_shorter : to ≤ length new
+  pub no_shorter : min to (length old) ≤ length new
   pub no_longer : length new ≤ length old
 
 -- A gate letter and the bytes behind it, of which the letter is written last: either those bytes are torn

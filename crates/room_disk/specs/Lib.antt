@@ -1,2 +1,12 @@
+pub mod Blank
 pub mod Crash
+pub mod Crashed
 pub mod Disk
+pub mod Faults
+pub mod Held
+pub mod Kept
+pub mod Laws
+pub mod Memory
+pub mod Past
+pub mod Rebuilding
+pub mod Untold

@@ -2,8 +2,22 @@
 //! journal, file 1 + c is cartridge c. docs/definitions.md says the disk model in words.
 #![tactic(auto)]
 
+mod deed;
+mod fault_counts;
+mod file_bytes;
+mod folder_store;
 mod gate;
+mod history;
+mod mem_file;
+mod mem_store;
+mod part;
+mod rebuilding;
 mod store;
 
+pub use folder_store::FolderStore;
 pub use gate::{write_gated, write_synced};
+pub use mem_store::MemStore;
 pub use store::Store;
+
+#[cfg(test)]
+mod tests;

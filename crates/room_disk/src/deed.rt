@@ -1,0 +1,18 @@
+use room_base::Items;
+
+/// A call that changed what a disk reads or what a crash may leave of it.
+#[derive(Debug, Drop)]
+pub enum Deed {
+    Written {
+        file: u32,
+        at: u64,
+        bytes: Items<u8>,
+    },
+    Cut {
+        file: u32,
+        to: u64,
+    },
+    Synced {
+        file: u32,
+    },
+}

@@ -1,0 +1,114 @@
+ghost use Rattle.std.specs.Prelude.{◌≡◌, ℕ, ◌+◌, ◌<◌, ◌≤◌, ◌∷◌, List, [], length, reverse, suc, slice_index_or, if◌then◌else◌};
+ghost use Rattle.room_disk.specs.declared.deed.Deed.{Deed};
+ghost use Rattle.room_disk.specs.declared.mem_file.MemFile.{MemFile};
+ghost use Rattle.room_disk.specs.Crashed.{partly_written, partly_cut, partly_done, all_partly_done, unsynced};
+ghost use Rattle.room_disk.specs.Kept.{Fits};
+ghost use Rattle.room_disk.specs.Rebuilding.{CanRebuild, IsRebuilt};
+
+use crate::deed::Deed;
+use crate::file_bytes::FileBytes;
+use crate::mem_file::MemFile;
+use crate::part::Part;
+
+/// Makes of each file what a crash leaves, which does a part of each deed since the last sync of its file.
+pub fn rebuild_all(files: &mut [MemFile], deeds: &[Deed], part: Part)
+    requires { (index : ℕ) (other : MemFile) → index < length files.old
+        → CanRebuild (reverse deeds.now) (slice_index_or files.old index other) }
+    ensures { (index : ℕ) (other : MemFile) → index < length files.old
+        → IsRebuilt part (reverse deeds.now) (slice_index_or files.old index other) (slice_index_or files.new index other) }
+{
+    for file in files.iter_mut() {
+        rebuild(file, deeds, part);
+    }
+}
+
+fn rebuild(file: &mut MemFile, deeds: &[Deed], part: Part)
+    requires { CanRebuild (reverse deeds.now) file.old }
+    ensures { IsRebuilt part (reverse deeds.now) file.old file.new }
+{
+    let (synced, since) = deeds.split_at(deeds.len() - unsynced(deeds, file.number));
+    file.now.replace(file.first.as_slice());
+    do_all(&mut file.now, file.number, synced, Part::All);
+    do_all(&mut file.now, file.number, since, part);
+    file.first.replace(file.now.as_slice());
+}
+
+// How many deeds were recorded since the last sync of the file.
+fn unsynced(deeds: &[Deed], file: u32) -> usize
+    ensures count { result ≡ unsynced file (reverse deeds.now) }
+    ensures within { result ≤ length deeds.now }
+{
+    let mut count = 0;
+    for deed in deeds {
+        count = if is_sync(deed, file) { 0 } else { count + 1 };
+    }
+    count
+}
+
+fn is_sync(deed: &Deed, file: u32) -> bool
+    ensures { (older : List Deed) → unsynced file (deed.now ∷ older) ≡ (if result then 0 else suc (unsynced file older)) }
+{
+    match deed {
+        Deed::Synced { file: other } => *other == file,
+        _ => false,
+    }
+}
+
+// Does a part of each deed of the file.
+fn do_all(bytes: &mut FileBytes, file: u32, deeds: &[Deed], part: Part)
+    requires { Fits bytes.old.room file (reverse deeds.now) }
+    ensures bytes { bytes.new.bytes ≡ all_partly_done part file bytes.old.bytes (reverse deeds.now) }
+    ensures room { bytes.new.room ≡ bytes.old.room }
+{
+    for deed in deeds {
+        do_part(bytes, file, deed, part);
+    }
+}
+
+fn do_part(bytes: &mut FileBytes, file: u32, deed: &Deed, part: Part)
+    requires { Fits bytes.old.room file (deed.now ∷ []) }
+    ensures bytes { bytes.new.bytes ≡ partly_done part file deed.now bytes.old.bytes }
+    ensures room { bytes.new.room ≡ bytes.old.room }
+{
+    match deed {
+        Deed::Written {
+            file: other,
+            at,
+            bytes: piece,
+        } => {
+            if *other == file {
+                write_part(bytes, *at as usize, piece.as_slice(), part);
+            }
+        }
+        Deed::Cut { file: other, to } => {
+            if *other == file {
+                cut_part(bytes, *to as usize, part);
+            }
+        }
+        Deed::Synced { .. } => {}
+    }
+}
+
+fn write_part(bytes: &mut FileBytes, at: usize, piece: &[u8], part: Part)
+    requires { at + length piece.now ≤ bytes.old.room }
+    ensures bytes { bytes.new.bytes ≡ partly_written part at piece.now bytes.old.bytes }
+    ensures room { bytes.new.room ≡ bytes.old.room }
+{
+    match part {
+        Part::Nothing => {}
+        Part::All => bytes.overlay(at, piece),
+        Part::Spoiled => bytes.spoil(at, piece.len()),
+        Part::FirstHalf => bytes.overlay(at, &piece[..piece.len() / 2]),
+    }
+}
+
+fn cut_part(bytes: &mut FileBytes, to: usize, part: Part)
+    ensures bytes { bytes.new.bytes ≡ partly_cut part to bytes.old.bytes }
+    ensures room { bytes.new.room ≡ bytes.old.room }
+{
+    match part {
+        Part::Nothing => {}
+        Part::Spoiled => bytes.spoil_end(to),
+        Part::All | Part::FirstHalf => bytes.cut(to),
+    }
+}
