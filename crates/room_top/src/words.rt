@@ -55,8 +55,8 @@ fn cart_of(word: &str) -> Option<Cart>
     }
 }
 
-// The status for a word that doesn't fit.
-fn misfit(alloc: Global, word: &str) -> Status
+/// The status for a word that doesn't fit.
+pub fn misfit(alloc: Global, word: &str) -> Status
     ensures { IsMisfit word.now result }
 {
     match Vec::from_slice(alloc, word.as_bytes()) {

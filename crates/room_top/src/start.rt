@@ -1,0 +1,112 @@
+use crate::Status;
+use crate::report::report;
+use crate::run::run;
+use crate::words::misfit;
+use room_base::{Name, NameFault, RealClock, Sink, StdSink, StdSource, write_all};
+use room_disk::FolderStore;
+use std::alloc::Global;
+use std::env;
+use std::fs::File;
+use std::io::Write;
+use std::rt::{Clock, Env, Files};
+
+/// The longest folder word, in bytes.
+const MAX_FOLDER: u32 = 4096;
+
+const HELP: &[u8] = b"usage: room FOLDER COMMAND ..
+
+room keeps files on cartridges, which are files of a folder that stand for tapes.
+
+commands:
+  put CART   the input becomes the first file of a blank cartridge, 1 to 256
+
+The exit status is 0 where all was done; else a line on standard error says why not.
+";
+
+const VERSION: &[u8] = b"room 0.1.0\n";
+
+/// Reads the program's arguments, of which the first names the folder, and does what the others ask, over
+/// the system's own objects.
+pub fn start<R, O, E>(rt: &R, out: O, err: E) -> Status
+where
+    R: Env + Files<File = File> + Clock + Input + AllocGlobal,
+    O: Write + Drop,
+    E: Write + Drop,
+{
+    let alloc = rt.alloc();
+    let mut out = StdSink::new(out);
+    let mut err = StdSink::new(err);
+    match read_arguments(rt) {
+        Ok(Request::Help) => told(alloc, &mut out, &mut err, HELP),
+        Ok(Request::Version) => told(alloc, &mut out, &mut err, VERSION),
+        Ok(Request::Run { folder, words }) => {
+            let mut input = StdSource::new(rt.reader());
+            let mut disk = FolderStore::new(rt, alloc, folder);
+            let mut clock = RealClock::new(rt);
+            run(
+                alloc,
+                words.as_slice(),
+                &mut input,
+                &mut out,
+                &mut err,
+                &mut disk,
+                &mut clock,
+            )
+        }
+        Err(status) => {
+            report(alloc, &mut err, &status);
+            status
+        }
+    }
+}
+
+/// What the arguments ask for.
+#[derive(Drop)]
+enum Request {
+    Help,
+    Version,
+    Run { folder: Name, words: Vec<String> },
+}
+
+// Reads the arguments behind the program's own name. Arguments that aren't all text are none.
+fn read_arguments<R: Env + AllocGlobal>(rt: &R) -> Result<Request, Status> {
+    let alloc = rt.alloc();
+    let mut words = Vec::new(alloc);
+    let Ok(arguments) = env::args(rt) else {
+        return Err(misfit(alloc, ""));
+    };
+    for word in arguments.skip(1) {
+        if words.push(word).is_err() {
+            return Err(Status::Memory);
+        }
+    }
+    let Some(first) = words.first() else {
+        return Err(misfit(alloc, ""));
+    };
+    if words.len() == 1 && first.as_str() == "--help" {
+        return Ok(Request::Help);
+    }
+    if words.len() == 1 && first.as_str() == "--version" {
+        return Ok(Request::Version);
+    }
+    let folder = folder_of(alloc, first.as_str())?;
+    words.remove(0);
+    Ok(Request::Run { folder, words })
+}
+
+fn folder_of(alloc: Global, word: &str) -> Result<Name, Status> {
+    match Name::read(alloc, word.as_bytes(), MAX_FOLDER) {
+        Ok(folder) => Ok(folder),
+        Err(NameFault::Memory) => Err(Status::Memory),
+        Err(_) => Err(misfit(alloc, word)),
+    }
+}
+
+// Writes a text that was asked for.
+fn told<W: Sink, E: Sink>(alloc: Global, out: &mut W, err: &mut E, text: &[u8]) -> Status {
+    if write_all(out, text).is_ok() {
+        return Status::Done;
+    }
+    report(alloc, err, &Status::WriteFault);
+    Status::WriteFault
+}
