@@ -2,14 +2,9 @@
 use Rattle.std.proofs.Common.{◌≡◌, ◌≢◌, ◌==◌, ℕ, zero, suc, ◌<◌, ◌≤◌, if◌then◌else◌, List, [], ◌∷◌, ◌++◌, length, set, get_or, refl, sym, ap, subst, ◌∙◌, arith, inl, inr}
 use Rattle.std.proofs.lemmas.Bool.Decides.{eqb_tells}
 use Rattle.room_disk.specs.declared.mem_file.MemFile.{MemFile}
+use Rattle.room_disk.specs.Laws.{if_other, if_same}
 use Rattle.room_disk.specs.Past.{listed}
 use Rattle.room_disk.specs.Kept.{blank_file, file_of, with_bytes, first_bytes, IsFirst, NoneHas, HasSameFiles, HasGrown, HasGrownFiles, HasRoomBehind, IsDistinct}
-
-pub if_same : {A : Type 0} (a b : ℕ) (x y : A) → a ≡ b → (if a == b then x else y) ≡ x
-if_same a b x y same = elim (eqb_tells a b) [ inl is ↦ rw is.0 refl | inr isnt ↦ absurd (isnt.1 same) ]
-
-pub if_other : {A : Type 0} (a b : ℕ) (x y : A) → a ≢ b → (if a == b then x else y) ≡ y
-if_other a b x y other = elim (eqb_tells a b) [ inl is ↦ absurd (other is.1) | inr isnt ↦ rw isnt.0 refl ]
 
 later_first : (file : ℕ) (one : MemFile) (rest : List MemFile) (index : ℕ) → IsFirst file (one ∷ rest) (suc index) → IsFirst file rest index
 later_first file one rest index first = record {

@@ -8,9 +8,10 @@ use Rattle.std.proofs.lemmas.Grind.{common_steps}
 use Rattle.room_disk.specs.Disk.{Image}
 use Rattle.room_disk.specs.Held.{Held, blank}
 use Rattle.room_disk.specs.Crash.{overlaid}
+use Rattle.room_disk.specs.Laws.{if_other, if_same}
 use Rattle.room_disk.specs.Past.{listed, read_after}
 use Rattle.room_disk.specs.Kept.{blank_file, file_of, first_bytes, Fits, IsKept, AreKept, IsFirst, NoneHas, HasGrown, HasGrownFiles, IsDistinct, IsKeptWhole}
-use Rattle.room_disk.proofs.Files.{if_same, if_other, file_at, file_none, file_set, file_set_other, first_set, distinct_set}
+use Rattle.room_disk.proofs.Files.{file_at, file_none, file_set, file_set_other, first_set, distinct_set}
 
 fits_more : (room more file : ℕ) (deeds : List Deed) → room ≤ more → Fits room file deeds → Fits more file deeds
 fits_more room more file [] le fits = tt

@@ -15,18 +15,24 @@ length-padded at file =
 pub get_or-padded : (at : ℕ) (file : List ℕ) (k : ℕ) → k < at → get_or (padded at file) k 0 ≡ get_or file k 0
 get_or-padded at file k h =
     elim (cases_lt k (length file)) [
-        inl inside ↦ grind (arith, places)
-      | inr past ↦ grind (arith, places, get_or_past, get_or-replicate) ]
+      | inl inside ↦ grind (arith, places)
+      | inr past ↦ grind (arith, places, get_or_past, get_or-replicate)
+    ]
 
 pub length-overlaid : (at : ℕ) (bytes file : List ℕ) → length (overlaid at bytes file) ≡ max (length file) (at + length bytes)
 length-overlaid at bytes file =
-    omega (arith, length-append (padded at file ++ bytes) (drop (at + length bytes) file), length-append (padded at file) bytes,
-        length-padded at file, length-drop (at + length bytes) file)
+    omega (
+      arith,
+      length-append (padded at file ++ bytes) (drop (at + length bytes) file),
+      length-append (padded at file) bytes,
+      length-padded at file,
+      length-drop (at + length bytes) file,
+    )
 
 pub overlaid-before : (at : ℕ) (bytes file : List ℕ) (k : ℕ) → k < at → get_or (overlaid at bytes file) k 0 ≡ get_or file k 0
 overlaid-before at bytes file k h =
     get_or_append_left (padded at file ++ bytes) (drop (at + length bytes) file) 0 k
-        (omega (arith, length-append (padded at file) bytes, length-padded at file))
+    (omega (arith, length-append (padded at file) bytes, length-padded at file))
     ∙ get_or_append_left (padded at file) bytes 0 k (omega (arith, length-padded at file))
     ∙ get_or-padded at file k h
 
@@ -34,14 +40,14 @@ pub overlaid-within : (at : ℕ) (bytes file : List ℕ) (k : ℕ) → at ≤ k 
     → get_or (overlaid at bytes file) k 0 ≡ get_or bytes (k - at) 0
 overlaid-within at bytes file k from to =
     get_or_append_left (padded at file ++ bytes) (drop (at + length bytes) file) 0 k
-        (omega (arith, length-append (padded at file) bytes, length-padded at file))
+    (omega (arith, length-append (padded at file) bytes, length-padded at file))
     ∙ get_or-append_right (padded at file) bytes at k 0 (length-padded at file) from
 
 pub overlaid-behind : (at : ℕ) (bytes file : List ℕ) (k : ℕ) → at + length bytes ≤ k
     → get_or (overlaid at bytes file) k 0 ≡ get_or file k 0
 overlaid-behind at bytes file k from =
     let ends : length (padded at file ++ bytes) ≡ at + length bytes =
-        omega (arith, length-append (padded at file) bytes, length-padded at file) in
+    omega (arith, length-append (padded at file) bytes, length-padded at file) in
     let place : at + length bytes + (k - (at + length bytes)) ≡ k = omega arith in
     get_or-append_right (padded at file ++ bytes) (drop (at + length bytes) file) (at + length bytes) k 0 ends from
     ∙ get_or-drop (at + length bytes) file (k - (at + length bytes)) 0
@@ -51,21 +57,24 @@ front_place : (at letter : ℕ) (rest file : List ℕ) (k : ℕ)
     → get_or (overlaid at (letter ∷ []) (overlaid (at + 1) rest file)) k 0 ≡ get_or (overlaid at (letter ∷ rest) file) k 0
 front_place at letter rest file k =
     elim (cases_lt k at) [
-        inl before ↦ overlaid-before at (letter ∷ []) (overlaid (at + 1) rest file) k before
+      | inl before ↦ overlaid-before at (letter ∷ []) (overlaid (at + 1) rest file) k before
           ∙ overlaid-before (at + 1) rest file k (omega arith) ∙ sym (overlaid-before at (letter ∷ rest) file k before)
       | inr from ↦ elim (cases_lt at k) [
-            inr here ↦
-              overlaid-within at (letter ∷ []) (overlaid (at + 1) rest file) k from (omega arith)
-              ∙ (let first : k - at ≡ 0 = omega arith in rw first)
-              ∙ sym (overlaid-within at (letter ∷ rest) file k from (omega arith))
-          | inl behind ↦
-              overlaid-behind at (letter ∷ []) (overlaid (at + 1) rest file) k (omega arith)
-              ∙ elim (cases_lt k (at + 1 + length rest)) [
-                  inl inside ↦ overlaid-within (at + 1) rest file k (omega arith) inside
-                    ∙ (let next : k - at ≡ suc (k - (at + 1)) = omega arith in
-                       sym (overlaid-within at (letter ∷ rest) file k from (omega arith) ∙ rw next))
-                | inr past ↦ overlaid-behind (at + 1) rest file k past
-                    ∙ sym (overlaid-behind at (letter ∷ rest) file k (omega arith)) ] ] ]
+        | inr here ↦
+            overlaid-within at (letter ∷ []) (overlaid (at + 1) rest file) k from (omega arith)
+            ∙ (let first : k - at ≡ 0 = omega arith in rw first)
+            ∙ sym (overlaid-within at (letter ∷ rest) file k from (omega arith))
+        | inl behind ↦
+            overlaid-behind at (letter ∷ []) (overlaid (at + 1) rest file) k (omega arith)
+            ∙ elim (cases_lt k (at + 1 + length rest)) [
+              | inl inside ↦ overlaid-within (at + 1) rest file k (omega arith) inside
+                  ∙ (let next : k - at ≡ suc (k - (at + 1)) = omega arith in
+                  sym (overlaid-within at (letter ∷ rest) file k from (omega arith) ∙ rw next))
+              | inr past ↦ overlaid-behind (at + 1) rest file k past
+                  ∙ sym (overlaid-behind at (letter ∷ rest) file k (omega arith))
+            ]
+      ]
+    ]
 
 -- a byte in front of what was written
 pub overlaid_front : (at letter : ℕ) (rest file : List ℕ)
@@ -84,13 +93,15 @@ letter_whole at letter rest old new torn reads =
     ext_get_or 0 _ _
     (omega (arith, torn.no_shorter, torn.no_longer, long, length-overlaid at (letter ∷ []) before))
     (λ k h. elim (cases_lt k at) [
-        inl low ↦ torn.before k low (omega (arith, long)) ∙ sym (overlaid-before at (letter ∷ []) before k low)
+      | inl low ↦ torn.before k low (omega (arith, long)) ∙ sym (overlaid-before at (letter ∷ []) before k low)
       | inr from ↦ elim (cases_lt at k) [
-            inl high ↦ torn.behind k (omega arith) (omega (arith, torn.no_longer, long)) ∙ sym (overlaid-behind at (letter ∷ []) before k (omega arith))
-          | inr here ↦ (let place : k ≡ at = omega arith in
-              let gone : k - at ≡ 0 = omega arith in
-              let written : get_or (overlaid at (letter ∷ []) before) k 0 ≡ letter =
-                  overlaid-within at (letter ∷ []) before k from (omega arith) ∙ ap (λ n. get_or (letter ∷ []) n 0) gone in
-              let read : get_or new k 0 ≡ letter = ap (λ n. get_or new n 0) place ∙ reads in
-              read ∙ sym written) ] ])
+        | inl high ↦ torn.behind k (omega arith) (omega (arith, torn.no_longer, long)) ∙ sym (overlaid-behind at (letter ∷ []) before k (omega arith))
+        | inr here ↦ (let place : k ≡ at = omega arith in
+            let gone : k - at ≡ 0 = omega arith in
+            let written : get_or (overlaid at (letter ∷ []) before) k 0 ≡ letter =
+            overlaid-within at (letter ∷ []) before k from (omega arith) ∙ ap (λ n. get_or (letter ∷ []) n 0) gone in
+            let read : get_or new k 0 ≡ letter = ap (λ n. get_or new n 0) place ∙ reads in
+            read ∙ sym written)
+      ]
+    ])
     ∙ overlaid_front at letter rest old

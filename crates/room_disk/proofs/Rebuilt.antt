@@ -10,9 +10,10 @@ use Rattle.room_disk.specs.declared.part.Part.TheVariants.{Nothing, All, Spoiled
 use Rattle.room_disk.specs.declared.mem_file.MemFile.{MemFile}
 use Rattle.room_disk.specs.Crashed.{partly_written, partly_cut, partly_done, all_partly_done, crashed_file, unsynced, rebuilt}
 use Rattle.room_disk.specs.Kept.{blank_file, file_of, first_bytes, Fits, IsKept, IsKeptWhole, IsDistinct}
+use Rattle.room_disk.specs.Laws.{if_other, if_same}
 use Rattle.room_disk.specs.Past.{listed}
 use Rattle.room_disk.specs.Rebuilding.{CanRebuild, IsRebuilt}
-use Rattle.room_disk.proofs.Files.{if_same, if_other, first_at, listed_first}
+use Rattle.room_disk.proofs.Files.{first_at, listed_first}
 use Rattle.room_disk.proofs.Replaying.{fits_append, crashed_is_rebuilt}
 
 no_write : (part : Part) → partly_written part 0 [] [] ≡ []

@@ -8,9 +8,9 @@ use Rattle.room_disk.specs.declared.part.Part.{Part}
 use Rattle.room_disk.specs.declared.part.Part.TheVariants.{All}
 use Rattle.room_disk.specs.Disk.{Image}
 use Rattle.room_disk.specs.Kept.{Fits}
+use Rattle.room_disk.specs.Laws.{if_other, if_same}
 use Rattle.room_disk.specs.Past.{read_after}
 use Rattle.room_disk.specs.Crashed.{partly_done, all_partly_done, crashed_file, unsynced, rebuilt}
-use Rattle.room_disk.proofs.Files.{if_same, if_other}
 
 pub reverse_more : (deeds : List Deed) (index : ℕ) (deed : Deed) → index < length deeds → deed ≡ get_or deeds index deed
     → reverse (take (index + 1) deeds) ≡ deed ∷ reverse (take index deeds)

@@ -7,12 +7,7 @@ use crate::Store;
 use room_base::Failed;
 
 /// Writes the bytes and syncs the file.
-pub fn write_synced<D: Store>(
-    store: &mut D,
-    file: u32,
-    at: u64,
-    bytes: &[u8],
-) -> Result<(), Failed>
+pub fn write_synced<D: Store>(store: &mut D, file: u32, at: u64, bytes: &[u8]) -> Result<(), Failed>
     ensures cause { FileCause file (D.view store.old) (D.view store.new) result }
     ensures tells { (D.view store.new).tells ≡ (D.view store.old).tells }
     ensures others { Told (D.view store.old).tells (Others file (D.view store.old) (D.view store.new)) }
@@ -22,7 +17,7 @@ pub fn write_synced<D: Store>(
     // Where nothing was pending on the file, a crash leaves the write whole, torn or not begun.
     ensures moments { Told (D.view store.old).tells (Settled (D.view store.old) file →
         Leaves (D.view store.old) (D.view store.new)
-            (OnFile file (Torn at bytes.now ((D.view store.old).reads file)) (D.view store.old))) }
+        (OnFile file (Torn at bytes.now ((D.view store.old).reads file)) (D.view store.old))) }
 {
     store.write_at(file, at, bytes)?;
     store.sync(file)
@@ -48,7 +43,7 @@ pub fn write_gated<D: Store>(
     // Where nothing was pending on the file, a crash leaves no open gate before bytes that aren't there.
     ensures moments { Told (D.view store.old).tells (Settled (D.view store.old) file →
         Leaves (D.view store.old) (D.view store.new)
-            (OnFile file (GatedTorn at letter rest.now ((D.view store.old).reads file)) (D.view store.old))) }
+        (OnFile file (GatedTorn at letter rest.now ((D.view store.old).reads file)) (D.view store.old))) }
 {
     write_synced(store, file, at + 1, rest)?;
     write_synced(store, file, at, &[letter])
