@@ -15,6 +15,18 @@ pub(crate) const FORM: u8 = 1;
 /// The bytes of a block before its digest: kind, form, used length, volid and number.
 pub(crate) const HEAD_SIZE: usize = 24;
 
+/// Where a block's form stands.
+pub(crate) const FORM_PLACE: usize = 1;
+
+/// Where a block's used length stands.
+pub(crate) const USED_PLACE: usize = 4;
+
+/// Where a block's volid stands.
+pub(crate) const VOLID_PLACE: usize = 8;
+
+/// Where a block's number stands.
+pub(crate) const NUMBER_PLACE: usize = 16;
+
 /// Where a block's payload begins, behind the head and the digest.
 pub const PAYLOAD_START: usize = 56;
 

@@ -3,6 +3,8 @@
 #![tactic(auto)]
 
 mod block;
+mod chunks;
+mod decode;
 mod encode;
 mod label;
 mod layout;

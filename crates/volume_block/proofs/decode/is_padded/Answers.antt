@@ -1,0 +1,11 @@
+use Rattle.std.proofs.Common.{ap, ◌∙◌}
+use Rattle.std.proofs.lemmas.List.{take_rest}
+use Rattle.byteorder.specs.Endian.{big_number}
+use Rattle.volume_block.specs.Why.{used_in}
+use Rattle.volume_block.proofs.Zeros.{zeros_within}
+use Rattle.volume_block.proofs.decode.is_padded.Goals as goal
+
+pub returns-then-used-le-PAYLOAD_SIZE : goal.returns-then-used-le-PAYLOAD_SIZE
+returns-then-used-le-PAYLOAD_SIZE c =
+    let bytes = c.args.bytes.now in
+    zeros_within c.are_zeros.result c.read_u32-used.result (used_in bytes) 56 4040 bytes (c.read_u32-used.ensures ∙ ap (big_number 4) (take_rest bytes 4)) c.if-used-le-PAYLOAD_SIZE.true c.requires c.are_zeros.ensures
