@@ -52,7 +52,7 @@ in_head : (text : List ℕ) → take 24 text ≡ take 8 text ++ take 4 (drop 8 t
 in_head text =
     take-add 20 4 text
     ∙ ap (λ (t : List ℕ). t ++ take 4 (drop 20 text))
-        (take-add 12 8 text ∙ ap (λ (t : List ℕ). t ++ take 8 (drop 12 text)) (take-add 8 4 text))
+    (take-add 12 8 text ∙ ap (λ (t : List ℕ). t ++ take 8 (drop 12 text)) (take-add 8 4 text))
 
 head_at : (text : List ℕ) → 24 ≤ length text → IsBytes text → take 24 text ≡ chunk_head (ssid_in text) (copy_in text) (offset_in text) (count_in text)
 head_at text long fits =
@@ -77,7 +77,7 @@ pub is_first : (text : List ℕ) → IsBytes text → 24 + count_in text ≤ len
     → offset_in text + count_in text ≤ 2 ^ 36 → IsFirstChunk text (24 + count_in text) (chunk_at text)
 is_first text fits within ssid copy some ends =
     let count : length (take (count_in text) (drop 24 text)) ≡ count_in text =
-        length-take-le (count_in text) (drop 24 text) (omega (arith, length-drop 24 text)) in
+    length-take-le (count_in text) (drop 24 text) (omega (arith, length-drop 24 text)) in
     let Spelled : ℕ → Type 0 = λ (n : ℕ). text ≡ (chunk_head (ssid_in text) (copy_in text) (offset_in text) n ++ take (count_in text) (drop 24 text)) ++ drop (24 + count_in text) text in
     record {
       allowed = record {

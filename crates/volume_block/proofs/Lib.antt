@@ -1,4 +1,5 @@
 mod Heads
+mod Labels
 pub mod Lengths
 mod Parts
 mod Splits

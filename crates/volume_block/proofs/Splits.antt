@@ -38,12 +38,12 @@ one_more payload rest size first fits is split =
     let front = split.so_far.0 in
     record {
       so_far = (
-          front ++ (first ∷ []),
-          All-append IsChunk front (first ∷ []) split.so_far.1 (All-cons IsChunk first [] is.allowed (All-nil IsChunk)),
-          split.so_far.2
-          ∙ ap (λ (t : List ℕ). chunks_text front ++ t) is.spelled
-          ∙ sym (append_assoc (chunks_text front) (chunk_text first) (drop size rest))
-          ∙ ap (λ (t : List ℕ). t ++ drop size rest) (flat_map_more chunk_text [] front first),
+        front ++ (first ∷ []),
+        All-append IsChunk front (first ∷ []) split.so_far.1 (All-cons IsChunk first [] is.allowed (All-nil IsChunk)),
+        split.so_far.2
+            ∙ ap (λ (t : List ℕ). chunks_text front ++ t) is.spelled
+            ∙ sym (append_assoc (chunks_text front) (chunk_text first) (drop size rest))
+            ∙ ap (λ (t : List ℕ). t ++ drop size rest) (flat_map_more chunk_text [] front first),
       );
       only = λ chunks each spelled.
           let after = split.only chunks each spelled in
@@ -73,15 +73,14 @@ pub all_chunks : (payload rest : List ℕ) → length payload ≤ 4040 → 1 ≤
 all_chunks payload rest fits some ended split =
     let front = split.so_far.0 in
     let spelled : payload ≡ chunks_text front =
-        split.so_far.2 ∙ ap (λ (t : List ℕ). chunks_text front ++ t) (nil_from_length rest ended) ∙ append-nil (chunks_text front) in
-    (
-        front,
-        (
-            record {
-              some = λ none. omega (arith, ap length (spelled ∙ ap chunks_text none));
-              fit = omega (arith, ap length spelled);
-              each = split.so_far.1;
-            },
-            spelled
-        )
+    split.so_far.2 ∙ ap (λ (t : List ℕ). chunks_text front ++ t) (nil_from_length rest ended) ∙ append-nil (chunks_text front) in (
+      front,
+      (
+        record {
+          some = λ none. omega (arith, ap length (spelled ∙ ap chunks_text none));
+          fit = omega (arith, ap length spelled);
+          each = split.so_far.1;
+        },
+        spelled,
+      ),
     )

@@ -54,6 +54,10 @@ IsCountIn payload count = IsCount count × (payload ≡ big_bytes 4 count)
 abbrev pub AreChunksIn : List ℕ → List ChunkText → Type 0
 AreChunksIn payload chunks = AreChunks chunks × (payload ≡ chunks_text chunks)
 
+-- a pool's name has the length that is told, and has room
+abbrev pub FitsPool : ℕ → List ℕ → Type 0
+FitsPool pool_length name = (length name ≡ pool_length) × (pool_length ≤ 64)
+
 -- a payload of this kind, in a volume
 abbrev pub IsPayload : ℕ → ℕ → List ℕ → Type 0
 IsPayload kind volid payload =

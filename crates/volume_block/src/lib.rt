@@ -8,6 +8,7 @@ mod decode;
 mod encode;
 mod label;
 mod layout;
+mod payload;
 mod sealing;
 
 pub use block::{BLOCK_SIZE, BadBlock, Block, Chunk, MAX_FILE_BLOCKS, PAYLOAD_SIZE, Reason};

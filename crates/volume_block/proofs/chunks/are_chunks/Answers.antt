@@ -25,8 +25,7 @@ loop-rest-preserved c =
 pub returns : goal.returns
 returns c =
     let payload = c.args.payload.now in
-    let ended : length c.loop-rest.rest.now ≡ 0 = search rules in
-    (
-        λ yes. let some : 1 ≤ length payload = search rules in all_chunks payload c.loop-rest.rest.now c.requires some ended c.loop-rest.invariant.split,
-        λ found. let some : length payload ≢ 0 = λ none. no_chunks_in_none payload none found.0 found.1 in search rules
+    let ended : length c.loop-rest.rest.now ≡ 0 = search rules in (
+      λ yes. let some : 1 ≤ length payload = search rules in all_chunks payload c.loop-rest.rest.now c.requires some ended c.loop-rest.invariant.split,
+      λ found. let some : length payload ≢ 0 = λ none. no_chunks_in_none payload none found.0 found.1 in search rules,
     )
