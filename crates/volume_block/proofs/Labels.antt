@@ -59,20 +59,19 @@ pub is_label_in : (payload : List ℕ) (label : Label) → IsBytes payload → 1
     → IsReadLabel payload label → HasRanges label → IsLabelIn label.volid.0 payload label
 is_label_in payload label bytes long volid read ranges =
     let name = drop 17 payload in
-    let zeros = replicate (64 - label.pool_length) 0 in
-    (
-        record {
-          volid = volid;
-          cart = ranges.0;
-          capacity = ranges.1;
-          made = ranges.2;
-          pool_length = (ranges.3, read.fits.1);
-          room = ap length read.pool ∙ length-append name zeros ∙ omega (arith, length-replicate {A = ℕ} (64 - label.pool_length) 0, read.fits.0, read.fits.1);
-          pool = ranges.4;
-          zeros = ap (drop label.pool_length) read.pool ∙ drop_at name zeros label.pool_length read.fits.0;
-        },
-        refl,
-        spelled_label payload label bytes long read
+    let zeros = replicate (64 - label.pool_length) 0 in (
+      record {
+        volid = volid;
+        cart = ranges.0;
+        capacity = ranges.1;
+        made = ranges.2;
+        pool_length = (ranges.3, read.fits.1);
+        room = ap length read.pool ∙ length-append name zeros ∙ omega (arith, length-replicate {A = ℕ} (64 - label.pool_length) 0, read.fits.0, read.fits.1);
+        pool = ranges.4;
+        zeros = ap (drop label.pool_length) read.pool ∙ drop_at name zeros label.pool_length read.fits.0;
+      },
+      refl,
+      spelled_label payload label bytes long read,
     )
 
 -- what is read where the payload spells a label
@@ -96,13 +95,12 @@ spells_label label allowed =
 
 pub spelled_has_ranges : (volid : ℕ) (payload : List ℕ) (label other : Label) → IsReadLabel payload label → IsLabelIn volid payload other → HasRanges label
 spelled_has_ranges volid payload label other read is =
-    let spells = subst (λ (t : List ℕ). SpellsLabel t other) (sym is.2) (spells_label other is.0) in
-    (
-        omega (arith, read.cart, spells.cart, is.0.cart.0, is.0.cart.1),
-        omega (arith, read.capacity, spells.capacity, is.0.capacity.0, is.0.capacity.1),
-        omega (arith, read.made, spells.made, is.0.made),
-        omega (arith, read.pool_length, spells.pool_length, is.0.pool_length.0),
-        subst IsName (sym (name_is payload label read ∙ spells.name)) is.0.pool
+    let spells = subst (λ (t : List ℕ). SpellsLabel t other) (sym is.2) (spells_label other is.0) in (
+      omega (arith, read.cart, spells.cart, is.0.cart.0, is.0.cart.1),
+      omega (arith, read.capacity, spells.capacity, is.0.capacity.0, is.0.capacity.1),
+      omega (arith, read.made, spells.made, is.0.made),
+      omega (arith, read.pool_length, spells.pool_length, is.0.pool_length.0),
+      subst IsName (sym (name_is payload label read ∙ spells.name)) is.0.pool,
     )
 
 -- the label that is made of what is read

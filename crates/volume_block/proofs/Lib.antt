@@ -1,7 +1,9 @@
+mod Blocks
 mod Heads
 mod Labels
 pub mod Lengths
 mod Parts
+mod Spelled
 mod Splits
 mod Whole
 mod Zeros
