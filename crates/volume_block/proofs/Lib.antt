@@ -1,4 +1,5 @@
 mod Blocks
+mod Finding
 mod Heads
 mod Labels
 pub mod Lengths

@@ -15,6 +15,7 @@ pub record Spells (bytes : List ℕ) (kind volid number : ℕ) (payload : List �
   pub form : HasForm bytes
   pub volid_read : volid_in bytes ≡ volid
   pub number_read : number_in bytes ≡ number
+  pub used_read : used_in bytes ≡ length payload
   pub payload_read : payload_in bytes ≡ payload
   pub padded : IsPadded bytes
   pub digest : HasDigest bytes
@@ -36,6 +37,7 @@ spells_parts kind volid number used digest payload rest fits volid-fits number-f
       form = (refl, refl, refl);
       volid_read = reads_8 volid ((big_bytes 8 number ++ digest) ++ rest) volid-fits;
       number_read = reads_8 number (digest ++ rest) number-fits;
+      used_read = used-is ∙ sym count;
       payload_read = ap (λ (n : ℕ). take n (drop 56 bytes)) used-is ∙ ap (take used) (behind ∙ padding) ∙ take_at payload zeros used count;
       padded = subst Padded (sym used-is) (fits, sym (drop-drop used 56 bytes) ∙ ap (drop used) (behind ∙ padding) ∙ drop_at payload zeros used count);
       digest = take_at digest rest 32 sized ∙ is ∙ ap (λ (t : List ℕ). sha256 (head ++ t)) (sym behind);

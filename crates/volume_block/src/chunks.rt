@@ -1,14 +1,40 @@
 //! Reads the chunks of a data block.
 
-ghost use Rattle.std.specs.Prelude.{◌≡◌, ◌≢◌, ◌≤◌, ◌+◌, ◌^◌, ◌++◌, ◌↔◌, ℕ, List, length, IsTrue, MatchOption};
+ghost use Rattle.std.specs.Prelude.{◌≡◌, ◌≢◌, ◌≤◌, ◌+◌, ◌^◌, ◌++◌, ◌↔◌, ℕ, List, length, IfSome, IsTrue, MatchOption};
 ghost use Rattle.volume_block.specs.Chunks.{ChunkText, IsChunk, chunk_text, ssid_in, copy_in, offset_in, count_in, IsFirstChunk};
+ghost use Rattle.volume_block.specs.Places.{SplitsAt, IsChunkPlace, FindsFirst};
 ghost use Rattle.volume_block.specs.Why.{AreChunksIn};
 
-use crate::layout::CHUNK_HEAD_SIZE;
+use crate::block::Chunk;
+use crate::layout::{CHUNK_HEAD_SIZE, PAYLOAD_START, used_length};
 use byteorder::{BigEndian, ByteOrder};
+use room_base::{CopyNo, Ssid};
 
 /// A save set's stream has no byte from here on.
 const STREAM_LIMIT: u64 = 1 << 36;
+
+/// Finds the chunk of a valid data block that begins at this place: 0, or `next` of the chunk before.
+/// There is none behind the last chunk.
+pub fn next_chunk(bytes: &[u8], at: u32) -> Option<Chunk>
+    requires whole { length bytes.now ≡ 4096 }
+    requires place { IsChunkPlace bytes.now at }
+    ensures found { (volid number : ℕ) (before after : List ChunkText) → SplitsAt bytes.now volid number at before after → FindsFirst bytes.now at after result }
+    ensures again { IfSome result (λ found. IsChunkPlace bytes.now found.next) }
+{
+    if at == used_length(bytes) {
+        return None;
+    }
+    let head = head_in(&bytes[PAYLOAD_START + at as usize..]);
+    let start = at + CHUNK_HEAD_SIZE as u32;
+    Some(Chunk {
+        ssid: Ssid(head.ssid),
+        copy: CopyNo(head.copy),
+        offset: head.offset,
+        length: head.count,
+        start: PAYLOAD_START as u32 + start,
+        next: start + head.count,
+    })
+}
 
 // What stands before a chunk's bytes, of which there are `count`.
 #[derive(Clone, Copy)]

@@ -9,7 +9,7 @@ use crate::chunks::are_chunks;
 use crate::label::Label;
 use crate::layout::{
     DATA_KIND, FORM, FORM_PLACE, HEAD_SIZE, LABEL_KIND, MARK_KIND, NUMBER_PLACE, PAYLOAD_START,
-    USED_PLACE, VOLID_PLACE,
+    VOLID_PLACE, used_length,
 };
 use crate::payload::{label_in, mark_count};
 use crate::sealing::digest_of;
@@ -75,7 +75,7 @@ fn payload_of(bytes: &[u8]) -> &[u8]
     requires padded { IsPadded bytes.now }
     ensures { result.now ≡ payload_in bytes.now }
 {
-    let used = BigEndian::read_u32(&bytes[USED_PLACE..]) as usize;
+    let used = used_length(bytes) as usize;
     &bytes[PAYLOAD_START..PAYLOAD_START + used]
 }
 
@@ -100,7 +100,7 @@ fn is_padded(bytes: &[u8]) -> bool
     requires { length bytes.now ≡ 4096 }
     ensures { IsTrue result ↔ IsPadded bytes.now }
 {
-    let used = BigEndian::read_u32(&bytes[USED_PLACE..]) as usize;
+    let used = used_length(bytes) as usize;
     used <= PAYLOAD_SIZE && are_zeros(&bytes[PAYLOAD_START + used..])
 }
 

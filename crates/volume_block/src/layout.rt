@@ -1,5 +1,10 @@
 //! Where the parts of a block stand, and the bytes that name its kind.
 
+ghost use Rattle.std.specs.Prelude.{◌≡◌, ◌≤◌, length};
+ghost use Rattle.volume_block.specs.Why.{used_in};
+
+use byteorder::{BigEndian, ByteOrder};
+
 /// The kind byte of a label.
 pub(crate) const LABEL_KIND: u8 = b'L';
 
@@ -19,7 +24,7 @@ pub(crate) const HEAD_SIZE: usize = 24;
 pub(crate) const FORM_PLACE: usize = 1;
 
 /// Where a block's used length stands.
-pub(crate) const USED_PLACE: usize = 4;
+const USED_PLACE: usize = 4;
 
 /// Where a block's volid stands.
 pub(crate) const VOLID_PLACE: usize = 8;
@@ -38,3 +43,11 @@ pub(crate) const MARK_USED: u32 = 4;
 
 /// The bytes of a chunk before those of its stream.
 pub const CHUNK_HEAD_SIZE: usize = 24;
+
+/// How many bytes of the payload are used, as the block's head says.
+pub(crate) fn used_length(bytes: &[u8]) -> u32
+    requires { 8 ≤ length bytes.now }
+    ensures { result ≡ used_in bytes.now }
+{
+    BigEndian::read_u32(&bytes[USED_PLACE..])
+}
