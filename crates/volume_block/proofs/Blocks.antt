@@ -1,10 +1,10 @@
 -- A block is valid exactly where each of its parts is right, and is one block alone.
-use Rattle.std.proofs.Common.{◌≡◌, ◌≢◌, ℕ, ◌+◌, ◌-◌, ◌^◌, ◌<◌, ◌≤◌, List, [], ◌∷◌, ◌++◌, length, take, drop, replicate, refl, sym, ap, subst, ◌∙◌, arith, inl, inr}
+use Rattle.std.proofs.Common.{◌≡◌, ◌≢◌, ℕ, ◌-◌, ◌^◌, ◌<◌, ◌≤◌, List, [], ◌++◌, length, take, drop, replicate, refl, sym, ap, subst, ◌∙◌, arith, inl, inr}
 use Rattle.std.proofs.lemmas.List.{length-append, length-take, take-append-drop}
 use Rattle.byteorder.specs.Endian.{big_bytes, big_number}
 use Rattle.volume_block.specs.Layout.{block_text}
 use Rattle.volume_block.specs.Chunks.{chunks_text}
-use Rattle.volume_block.specs.Valid.{IsLabel, ValidBlock, label_fields, label_payload}
+use Rattle.volume_block.specs.Valid.{ValidBlock, label_fields, label_payload}
 use Rattle.volume_block.specs.Why.{kind_in, used_in, volid_in, number_in, payload_in, IsKindAt, IsPayload, IsLabelIn, SaysBlock, IsRight, AreRightBelow}
 use Rattle.volume_block.specs.declared.label.Label.{Label}
 use Rattle.volume_block.specs.declared.block.Block.{Block}

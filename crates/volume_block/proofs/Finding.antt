@@ -1,17 +1,17 @@
 -- The chunk that begins at a place of a data block.
-use Rattle.std.proofs.Common.{◌≡◌, ◌≢◌, ℕ, ◌+◌, ◌-◌, ◌^◌, ◌<◌, ◌≤◌, List, [], ◌∷◌, ◌++◌, All, length, take, drop, Some, None, refl, sym, ap, subst, ◌∙◌, append_assoc, arith}
-use Rattle.std.proofs.lemmas.List.{length-append, length-take, length-drop, take-append-drop, take_rest, drop-drop, drop_at}
+use Rattle.std.proofs.Common.{◌≡◌, ◌≢◌, ℕ, ◌+◌, ◌-◌, ◌≤◌, List, [], ◌∷◌, ◌++◌, All, length, take, drop, Some, None, refl, sym, ap, subst, ◌∙◌, append_assoc, arith}
+use Rattle.std.proofs.lemmas.List.{length-append, take-append-drop, take_rest, drop-drop, drop_at}
 use Rattle.std.proofs.lemmas.List.Concat.{flat_map-append}
 use Rattle.std.proofs.lemmas.List.Elements.{All-head, All-tail}
 use Rattle.volume_block.specs.Chunks.{ChunkText, IsChunk, chunk_text, chunks_text, ssid_in, copy_in, offset_in, count_in}
 use Rattle.volume_block.specs.Places.{SplitsAt, IsChunkPlace, FindsFirst}
 use Rattle.volume_block.specs.Valid.{HoldsChunks, ValidBlock}
-use Rattle.volume_block.specs.Why.{used_in, payload_in}
+use Rattle.volume_block.specs.Why.{used_in}
 use Rattle.volume_block.specs.declared.block.Block.TheVariants as kinds
 use Rattle.volume_block.specs.declared.block.Chunk.{Chunk}
 use Rattle.volume_block.proofs.Heads.{Reads, reads_chunk}
-use Rattle.volume_block.proofs.Lengths.{length-held, length-chunk_text, length-chunks_text}
-use Rattle.volume_block.proofs.Spelled.{Spells, spells_block}
+use Rattle.volume_block.proofs.Lengths.{length-held, length-chunks_text}
+use Rattle.volume_block.proofs.Spelled.{spells_block}
 
 each_after : (before after : List ChunkText) → All IsChunk (before ++ after) → All IsChunk after
 each_after [] after each = each

@@ -1,10 +1,10 @@
 -- A label is read from its payload, and is the only one that the payload spells.
-use Rattle.std.proofs.Common.{◌≡◌, ℕ, suc, ◌+◌, ◌-◌, ◌^◌, ◌<◌, ◌≤◌, List, [], ◌∷◌, ◌++◌, length, take, drop, replicate, slice_index, refl, sym, ap, subst, ◌∙◌, append_assoc, arith}
-use Rattle.std.proofs.lemmas.List.{append-nil, length-append, length-drop, length-take-le, length-replicate, drop-replicate, take-append-drop, drop-drop, take_at, drop_at, drop_more, take_rest}
+use Rattle.std.proofs.Common.{◌≡◌, ℕ, ◌-◌, ◌≤◌, List, ◌∷◌, ◌++◌, length, take, drop, replicate, slice_index, refl, sym, ap, subst, ◌∙◌, arith}
+use Rattle.std.proofs.lemmas.List.{length-append, length-drop, length-replicate, drop-replicate, take-append-drop, take_at, drop_at, drop_more, take_rest}
 use Rattle.std.proofs.Math.Seq.{take-add}
 use Rattle.byteorder.specs.Endian.{big_bytes, big_number}
 use Rattle.room_base.specs.Text.{IsName}
-use Rattle.volume_block.specs.Valid.{IsVolid, IsLabel, HasRanges, label_fields, label_payload}
+use Rattle.volume_block.specs.Valid.{IsVolid, IsLabel, HasRanges, label_payload}
 use Rattle.volume_block.specs.Why.{FitsPool, IsLabelIn}
 use Rattle.room_base.specs.declared.numbers.Volid.{Volid}
 use Rattle.volume_block.specs.declared.label.Label.{Label}

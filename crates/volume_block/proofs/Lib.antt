@@ -1,10 +1,10 @@
-mod Blocks
-mod Finding
+pub mod Blocks
+pub mod Finding
 mod Heads
 mod Labels
 pub mod Lengths
-mod Parts
-mod Spelled
+pub mod Parts
+pub mod Spelled
 mod Splits
 mod Whole
 mod Zeros

@@ -1,13 +1,12 @@
 -- What is read from bytes that a block's fields spell.
-use Rattle.std.proofs.Common.{◌≡◌, ℕ, ◌+◌, ◌-◌, ◌^◌, ◌<◌, ◌≤◌, List, [], ◌∷◌, ◌++◌, length, take, drop, replicate, refl, sym, ap, subst, ◌∙◌, arith}
+use Rattle.std.proofs.Common.{◌≡◌, ℕ, ◌+◌, ◌-◌, ◌^◌, ◌<◌, ◌≤◌, List, ◌++◌, length, take, drop, replicate, refl, sym, ap, subst, ◌∙◌, arith}
 use Rattle.std.proofs.lemmas.List.{length-append, drop-drop, take_at, drop_at}
-use Rattle.byteorder.specs.Endian.{big_bytes, big_number}
+use Rattle.byteorder.specs.Endian.{big_bytes}
 use Rattle.sha2.specs.Sha256.{sha256}
 use Rattle.sha2.proofs.Facts256.{length-sha256}
-use Rattle.volume_block.specs.Layout.{head_text, padded_payload, with_digest, block_text}
+use Rattle.volume_block.specs.Layout.{head_text, padded_payload, block_text}
 use Rattle.volume_block.specs.Why.{kind_in, used_in, volid_in, number_in, payload_in, HasForm, IsPadded, HasDigest}
 use Rattle.volume_block.proofs.Heads.{reads_4, reads_8}
-use Rattle.volume_block.proofs.Lengths.{length-head_text}
 
 -- the parts of bytes that are a block with these fields
 pub record Spells (bytes : List ℕ) (kind volid number : ℕ) (payload : List ℕ) : Type 0 where

@@ -1,12 +1,11 @@
 -- A payload is taken apart into chunks, from its front on.
-use Rattle.std.proofs.Common.{◌≡◌, ◌≢◌, ℕ, zero, suc, ◌+◌, ◌-◌, ◌^◌, ◌<◌, ◌≤◌, List, [], ◌∷◌, ◌++◌, length, take, drop, All, refl, sym, ap, subst, ◌∙◌, append_assoc, arith}
-use Rattle.std.proofs.lemmas.List.{append-nil, length-append, length-drop, flat_map_more, nil_from_length}
+use Rattle.std.proofs.Common.{◌≡◌, ◌≢◌, ℕ, ◌+◌, ◌≤◌, List, [], ◌∷◌, ◌++◌, length, drop, All, refl, sym, ap, ◌∙◌, append_assoc, arith}
+use Rattle.std.proofs.lemmas.List.{append-nil, length-append, flat_map_more, nil_from_length}
 use Rattle.std.proofs.lemmas.List.Elements.{All-nil, All-cons, All-append, All-head, All-tail}
 use Rattle.volume_block.specs.Chunks.{ChunkText, IsChunk, chunk_text, chunks_text, count_in, IsFirstChunk}
-use Rattle.volume_block.specs.Valid.{AreChunks}
 use Rattle.volume_block.specs.Why.{AreChunksIn}
 use Rattle.volume_block.proofs.Lengths.{length-chunk_text, length-chunks_text}
-use Rattle.volume_block.proofs.Heads.{Reads, reads_chunk}
+use Rattle.volume_block.proofs.Heads.{reads_chunk}
 
 -- what is behind the first chunk
 pub behind_first : (text : List ℕ) (size : ℕ) (first other : ChunkText) (tail : List ℕ) → length text ≤ 4040

@@ -1,6 +1,6 @@
-use Rattle.std.proofs.Common.{◌≡◌, ◌≢◌, ℕ, ◌++◌, ◌+◌, ◌-◌, ◌≤◌, List, length, drop, sym, ap, subst, ◌∙◌, arith, rules}
+use Rattle.std.proofs.Common.{◌≡◌, ◌≢◌, ℕ, ◌++◌, ◌≤◌, List, length, sym, subst, arith, rules}
 use Rattle.std.proofs.lemmas.List.{take_rest, length-drop}
-use Rattle.volume_block.specs.Chunks.{ChunkText, IsChunk, chunk_text, IsFirstChunk}
+use Rattle.volume_block.specs.Chunks.{ChunkText, IsChunk, chunk_text}
 use Rattle.volume_block.proofs.Splits.{one_more, no_chunks, no_chunks_in_none, all_chunks}
 use Rattle.volume_block.proofs.chunks.are_chunks.Invariants.{IsKept}
 use Rattle.volume_block.proofs.chunks.are_chunks.Goals as goal

@@ -1,5 +1,5 @@
-use Rattle.std.proofs.Common.{◌≡◌, IsTrue, ℕ, ◌+◌, ◌-◌, ◌≤◌, length, sym, ap, subst, ◌∙◌, arith, rules}
-use Rattle.volume_block.specs.Chunks.{ChunkText, IsFirstChunk, ssid_in, copy_in, offset_in, count_in}
+use Rattle.std.proofs.Common.{IsTrue, ℕ, ◌+◌, sym, subst, arith, rules}
+use Rattle.volume_block.specs.Chunks.{ChunkText, IsFirstChunk}
 use Rattle.volume_block.proofs.Heads.{chunk_at, is_first, allowed_at_front}
 use Rattle.volume_block.proofs.chunks.first_chunk_size.Goals as goal
 use Rattle.volume_block.proofs.chunks.first_chunk_size.Goals.{then-count-text-via-then-count-text, then-count-text-via-else-count-text+then-not-is_allowed}

@@ -1,5 +1,5 @@
-use Rattle.std.proofs.Common.{◌≡◌, ◌≢◌, ◌+◌, sym, ap, ◌∙◌, refl, arith}
-use Rattle.std.proofs.lemmas.List.{length-take, length-drop, take_rest}
+use Rattle.std.proofs.Common.{◌≢◌, ◌+◌, sym, ap, ◌∙◌, refl, arith}
+use Rattle.std.proofs.lemmas.List.{length-drop, take_rest}
 use Rattle.volume_block.specs.Why.{used_in}
 use Rattle.volume_block.specs.Chunks.{count_in}
 use Rattle.volume_block.specs.declared.block.Chunk.{Chunk}

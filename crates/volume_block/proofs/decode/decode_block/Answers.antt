@@ -1,4 +1,4 @@
-use Rattle.std.proofs.Common.{◌≡◌, ℕ, ◌≤◌, ◌<◌, ◌^◌, List, length, drop, Ok, sym, ap, subst, ◌∙◌, arith, rules}
+use Rattle.std.proofs.Common.{ℕ, ◌<◌, ◌^◌, List, length, drop, Ok, sym, ap, subst, arith, rules}
 use Rattle.std.proofs.lemmas.List.{length-take}
 use Rattle.volume_block.specs.Why.{kind_in, used_in, payload_in, IsPayload, SaysBlock}
 use Rattle.volume_block.specs.declared.block.Reason.TheVariants as reasons

@@ -1,6 +1,3 @@
-use Rattle.std.proofs.Common.{ap, ◌∙◌}
-use Rattle.std.proofs.lemmas.List.{take_rest}
-use Rattle.byteorder.specs.Endian.{big_number}
 use Rattle.volume_block.specs.Why.{used_in}
 use Rattle.volume_block.proofs.Zeros.{zeros_within}
 use Rattle.volume_block.proofs.decode.is_padded.Goals as goal

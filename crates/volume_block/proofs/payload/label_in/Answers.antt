@@ -1,4 +1,4 @@
-use Rattle.std.proofs.Common.{◌≡◌, ℕ, ◌≤◌, ◌<◌, ◌^◌, List, slice_index, refl, arith, rules}
+use Rattle.std.proofs.Common.{slice_index, refl, arith, rules}
 use Rattle.volume_block.specs.Valid.{IsVolid}
 use Rattle.volume_block.proofs.Labels.{made_of, read_label, is_label_in, spelled_has_ranges}
 use Rattle.volume_block.proofs.payload.label_in.Goals as goal

@@ -1,4 +1,4 @@
-use Rattle.std.proofs.Common.{◌≡◌, ◌≤◌, length, arith, rules}
+use Rattle.std.proofs.Common.{rules}
 use Rattle.volume_block.specs.Why.{FitsPool}
 use Rattle.volume_block.proofs.Labels.{padded_with}
 use Rattle.volume_block.proofs.payload.padded_pool.Goals as goal
