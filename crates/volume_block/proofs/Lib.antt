@@ -1,2 +1,10 @@
+pub mod Blocks
+pub mod Finding
+mod Heads
+mod Labels
 pub mod Lengths
+pub mod Parts
+pub mod Spelled
+mod Splits
 pub mod Whole
+mod Zeros

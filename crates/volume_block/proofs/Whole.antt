@@ -22,7 +22,7 @@ padded skip used size old zeros whole fits filled =
     ∙ ap (λ (t : List ℕ). t ++ replicate (size - used) 0) (drop-take skip used old)
 
 -- a head, the digest and a padded payload are a block
-block_is : (kind volid number used : ℕ) (payload rest : List ℕ) → length payload ≡ used
+pub block_is : (kind volid number used : ℕ) (payload rest : List ℕ) → length payload ≡ used
     → rest ≡ payload ++ replicate (4040 - used) 0
     → with_digest (head_text kind used volid number) rest ≡ block_text kind volid number payload
 unfolding block_text

@@ -1,7 +1,7 @@
 -- Chunks: pieces of save sets' streams, as a data block holds them.
-use Rattle.std.specs.Prelude.{◌≡◌, ℕ, ◌+◌, ◌≤◌, ◌<◌, ◌^◌, List, [], ◌∷◌, ◌++◌, length}
+use Rattle.std.specs.Prelude.{◌≡◌, ℕ, ◌+◌, ◌≤◌, ◌<◌, ◌^◌, List, [], ◌∷◌, ◌++◌, length, drop}
 use Rattle.std.specs.List.{flat_map}
-use Rattle.byteorder.specs.Endian.{big_bytes}
+use Rattle.byteorder.specs.Endian.{big_bytes, big_number}
 
 -- bytes of a stream, from an offset on
 pub record ChunkText : Type 0 where
@@ -24,6 +24,26 @@ chunk_head ssid copy offset count = big_bytes 8 ssid ++ big_bytes 4 copy ++ big_
 -- how a chunk is spelled
 abbrev pub chunk_text : ChunkText → List ℕ
 chunk_text chunk = chunk_head chunk.ssid chunk.copy chunk.offset (length chunk.bytes) ++ chunk.bytes
+
+-- the fields of a chunk at the front of these bytes
+abbrev pub ssid_in : List ℕ → ℕ
+ssid_in text = big_number 8 text
+
+abbrev pub copy_in : List ℕ → ℕ
+copy_in text = big_number 4 (drop 8 text)
+
+abbrev pub offset_in : List ℕ → ℕ
+offset_in text = big_number 8 (drop 12 text)
+
+abbrev pub count_in : List ℕ → ℕ
+count_in text = big_number 4 (drop 20 text)
+
+-- this chunk is at the front of the bytes, and takes so many of them
+pub record IsFirstChunk (text : List ℕ) (size : ℕ) (chunk : ChunkText) : Type 0 where
+  pub allowed : IsChunk chunk
+  pub sized : size ≡ 24 + length chunk.bytes
+  pub within : size ≤ length text
+  pub spelled : text ≡ chunk_text chunk ++ drop size text
 
 -- how chunks are spelled, one behind the other
 abbrev pub chunks_text : List ChunkText → List ℕ

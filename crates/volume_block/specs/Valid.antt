@@ -28,6 +28,12 @@ pub record IsLabel (label : Label) : Type 0 where
   pub pool : IsName (take label.pool_length label.pool)
   pub zeros : drop label.pool_length label.pool ≡ replicate (64 - label.pool_length) 0
 
+-- the fields of a label that is read are in their ranges
+abbrev pub HasRanges : Label → Type 0
+HasRanges label =
+    ((1 ≤ label.cart.0) × (label.cart.0 ≤ 256)) × ((67 ≤ label.capacity) × (label.capacity ≤ 1000000))
+    × (label.made.0 ≤ max_moment) × (1 ≤ label.pool_length) × IsName (take label.pool_length label.pool)
+
 -- a label's payload up to the length of its pool
 abbrev pub label_fields : Label → List ℕ
 label_fields label = big_bytes 4 label.cart.0 ++ big_bytes 4 label.capacity ++ big_bytes 8 label.made.0

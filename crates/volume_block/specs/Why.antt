@@ -1,11 +1,13 @@
 -- Why bytes are no valid block: the first part that is wrong.
-use Rattle.std.specs.Prelude.{◌≡◌, ◌⊎◌, ℕ, zero, suc, ◌+◌, ◌-◌, ◌≤◌, ◌<◌, List, ◌++◌, take, drop, replicate, slice_index}
+use Rattle.std.specs.Prelude.{◌≡◌, ◌⊎◌, ℕ, ◌+◌, ◌-◌, ◌≤◌, ◌<◌, List, ◌++◌, length, take, drop, replicate, slice_index}
 use Rattle.byteorder.specs.Endian.{big_number}
 use Rattle.sha2.specs.Sha256.{sha256}
 use Rattle.volume_block.specs.Valid.{IsLabel, label_payload, IsCount, AreChunks}
 use Rattle.volume_block.specs.Chunks.{ChunkText, chunks_text}
 use Rattle.byteorder.specs.Endian.{big_bytes}
 use Rattle.volume_block.specs.declared.label.Label.{Label}
+use Rattle.volume_block.specs.declared.block.Block.{Block}
+use Rattle.volume_block.specs.declared.block.Block.TheVariants as kinds
 use Rattle.volume_block.specs.declared.block.Reason.{Reason}
 use Rattle.volume_block.specs.declared.block.Reason.TheVariants as reasons
 
@@ -27,27 +29,50 @@ payload_in bytes = take (used_in bytes) (drop 56 bytes)
 
 -- the label stands at number 0, marks and data blocks at others
 abbrev pub IsKindAt : ℕ → ℕ → Type 0
-IsKindAt kind zero = kind ≡ 0x4C
-IsKindAt kind (suc number) = (kind ≡ 0x46) ⊎ (kind ≡ 0x44)
+IsKindAt kind number =
+    ((number ≡ 0) × (kind ≡ 0x4C)) ⊎ ((1 ≤ number) × ((kind ≡ 0x46) ⊎ (kind ≡ 0x44)))
+
+-- the bytes 1 to 3
+abbrev pub HasForm : List ℕ → Type 0
+HasForm bytes = (slice_index bytes 1 ≡ 1) × (slice_index bytes 2 ≡ 0) × (slice_index bytes 3 ≡ 0)
+
+-- the payload has room, and zeros stand behind it
+abbrev pub IsPadded : List ℕ → Type 0
+IsPadded bytes = (used_in bytes ≤ 4040) × (drop (56 + used_in bytes) bytes ≡ replicate (4040 - used_in bytes) 0)
+
+-- the digest is that of the bytes before and behind it
+abbrev pub HasDigest : List ℕ → Type 0
+HasDigest bytes = take 32 (drop 24 bytes) ≡ sha256 (take 24 bytes ++ drop 56 bytes)
+
+-- the payload of a label, of a mark, of a data block
+abbrev pub IsLabelIn : ℕ → List ℕ → Label → Type 0
+IsLabelIn volid payload label = IsLabel label × (label.volid.0 ≡ volid) × (payload ≡ label_payload label)
+
+abbrev pub IsCountIn : List ℕ → ℕ → Type 0
+IsCountIn payload count = IsCount count × (payload ≡ big_bytes 4 count)
+
+abbrev pub AreChunksIn : List ℕ → List ChunkText → Type 0
+AreChunksIn payload chunks = AreChunks chunks × (payload ≡ chunks_text chunks)
+
+-- a pool's name has the length that is told, and has room
+abbrev pub FitsPool : ℕ → List ℕ → Type 0
+FitsPool pool_length name = (length name ≡ pool_length) × (pool_length ≤ 64)
 
 -- a payload of this kind, in a volume
 abbrev pub IsPayload : ℕ → ℕ → List ℕ → Type 0
 IsPayload kind volid payload =
-    ((kind ≡ 0x4C) × ((label : Label) × IsLabel label × (label.volid.0 ≡ volid) × (payload ≡ label_payload label)))
-    ⊎ ((kind ≡ 0x46) × ((count : ℕ) × IsCount count × (payload ≡ big_bytes 4 count)))
-    ⊎ ((kind ≡ 0x44) × ((chunks : List ChunkText) × AreChunks chunks × (payload ≡ chunks_text chunks)))
+    ((kind ≡ 0x4C) × ((label : Label) × IsLabelIn volid payload label))
+    ⊎ ((kind ≡ 0x46) × ((count : ℕ) × IsCountIn payload count))
+    ⊎ ((kind ≡ 0x44) × ((chunks : List ChunkText) × AreChunksIn payload chunks))
 
 -- this part of a block of 4,096 bytes is right, for this volume and number
 abbrev pub IsRight : Reason → List ℕ → ℕ → ℕ → Type 0
 IsRight reasons.Kind bytes volid number = IsKindAt (kind_in bytes) number
-IsRight reasons.Form bytes volid number =
-    (slice_index bytes 1 ≡ 1) × (slice_index bytes 2 ≡ 0) × (slice_index bytes 3 ≡ 0)
+IsRight reasons.Form bytes volid number = HasForm bytes
 IsRight reasons.Volid bytes volid number = (volid_in bytes ≡ volid) × (1 ≤ volid)
 IsRight reasons.Number bytes volid number = number_in bytes ≡ number
-IsRight reasons.Length bytes volid number =
-    (used_in bytes ≤ 4040) × (drop (56 + used_in bytes) bytes ≡ replicate (4040 - used_in bytes) 0)
-IsRight reasons.Digest bytes volid number =
-    take 32 (drop 24 bytes) ≡ sha256 (take 24 bytes ++ drop 56 bytes)
+IsRight reasons.Length bytes volid number = IsPadded bytes
+IsRight reasons.Digest bytes volid number = HasDigest bytes
 IsRight reasons.Payload bytes volid number = IsPayload (kind_in bytes) volid (payload_in bytes)
 
 -- the place of a part in the order in which they are judged
@@ -60,7 +85,18 @@ rank_of reasons.Length = 4
 rank_of reasons.Digest = 5
 rank_of reasons.Payload = 6
 
+-- every part before this place in the order is right
+abbrev pub AreRightBelow : ℕ → List ℕ → ℕ → ℕ → Type 0
+AreRightBelow rank bytes volid number = (part : Reason) → rank_of part < rank → IsRight part bytes volid number
+
 -- the first part that is wrong
 pub record Why (bytes : List ℕ) (volid number : ℕ) (why : Reason) : Type 0 where
   pub wrong : ¬ (IsRight why bytes volid number)
-  pub first : (part : Reason) → rank_of part < rank_of why → IsRight part bytes volid number
+  pub first : AreRightBelow (rank_of why) bytes volid number
+
+-- what a payload of this kind says
+abbrev pub SaysBlock : ℕ → ℕ → List ℕ → Block → Type 0
+SaysBlock kind volid payload (kinds.Label label) = (kind ≡ 0x4C) × IsLabelIn volid payload label
+SaysBlock kind volid payload (kinds.Mark count) = (kind ≡ 0x46) × IsCountIn payload count
+SaysBlock kind volid payload (kinds.Data used) =
+    (kind ≡ 0x44) × (used ≡ length payload) × ((chunks : List ChunkText) × AreChunksIn payload chunks)

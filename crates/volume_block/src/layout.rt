@@ -1,5 +1,10 @@
 //! Where the parts of a block stand, and the bytes that name its kind.
 
+ghost use Rattle.std.specs.Prelude.{◌≡◌, ◌≤◌, length};
+ghost use Rattle.volume_block.specs.Why.{used_in};
+
+use byteorder::{BigEndian, ByteOrder};
+
 /// The kind byte of a label.
 pub(crate) const LABEL_KIND: u8 = b'L';
 
@@ -15,6 +20,18 @@ pub(crate) const FORM: u8 = 1;
 /// The bytes of a block before its digest: kind, form, used length, volid and number.
 pub(crate) const HEAD_SIZE: usize = 24;
 
+/// Where a block's form stands.
+pub(crate) const FORM_PLACE: usize = 1;
+
+/// Where a block's used length stands.
+const USED_PLACE: usize = 4;
+
+/// Where a block's volid stands.
+pub(crate) const VOLID_PLACE: usize = 8;
+
+/// Where a block's number stands.
+pub(crate) const NUMBER_PLACE: usize = 16;
+
 /// Where a block's payload begins, behind the head and the digest.
 pub const PAYLOAD_START: usize = 56;
 
@@ -26,3 +43,11 @@ pub(crate) const MARK_USED: u32 = 4;
 
 /// The bytes of a chunk before those of its stream.
 pub const CHUNK_HEAD_SIZE: usize = 24;
+
+/// How many bytes of the payload are used, as the block's head says.
+pub(crate) fn used_length(bytes: &[u8]) -> u32
+    requires { 8 ≤ length bytes.now }
+    ensures { result ≡ used_in bytes.now }
+{
+    BigEndian::read_u32(&bytes[USED_PLACE..])
+}

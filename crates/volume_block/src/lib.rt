@@ -3,12 +3,17 @@
 #![tactic(auto)]
 
 mod block;
+mod chunks;
+mod decode;
 mod encode;
 mod label;
 mod layout;
+mod payload;
 mod sealing;
 
 pub use block::{BLOCK_SIZE, BadBlock, Block, Chunk, MAX_FILE_BLOCKS, PAYLOAD_SIZE, Reason};
+pub use chunks::next_chunk;
+pub use decode::{decode_block, decode_label};
 pub use encode::{encode_label, encode_mark, seal_data, write_chunk_head};
 pub use label::{Label, MAX_CAPACITY, MAX_CART, MIN_CAPACITY};
 pub use layout::{CHUNK_HEAD_SIZE, PAYLOAD_START};

@@ -1,6 +1,7 @@
 //! Makes a block where its payload stands: writes the zeros behind it, the head and the digest.
 
 ghost use Rattle.std.specs.Prelude.{◌≡◌, ◌≤◌, ◌++◌, length, take, drop};
+ghost use Rattle.sha2.specs.Sha256.{sha256};
 ghost use Rattle.volume_block.specs.Layout.{head_text, with_digest, block_text};
 
 use crate::layout::{FORM, HEAD_SIZE, PAYLOAD_START};
@@ -31,13 +32,22 @@ fn write_head(kind: u8, used: u32, volid: u64, number: u64, block: &mut [u8])
     BigEndian::write_u64(&mut block[16..], number);
 }
 
-// Writes the digest of the bytes before it and behind it, which are digested where they stand.
+// Writes the digest of the bytes before it and behind it.
 fn write_digest(block: &mut [u8])
     requires { 56 ≤ length block.old }
     ensures { block.new ≡ with_digest (take 24 block.old) (drop 56 block.old) }
 {
+    let digest = digest_of(block);
+    block[HEAD_SIZE..PAYLOAD_START].copy_from_slice(&digest);
+}
+
+/// The digest of a block's bytes, which are digested where they stand.
+pub(crate) fn digest_of(block: &[u8]) -> [u8; 32]
+    requires { 56 ≤ length block.now }
+    ensures { result ≡ sha256 (take 24 block.now ++ drop 56 block.now) }
+{
     let mut hasher = Sha256::new();
     hasher.update(&block[..HEAD_SIZE]);
     hasher.update(&block[PAYLOAD_START..]);
-    block[HEAD_SIZE..PAYLOAD_START].copy_from_slice(&hasher.finalize());
+    hasher.finalize()
 }

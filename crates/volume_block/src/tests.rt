@@ -1,7 +1,8 @@
-ghost use Rattle.std.specs.Prelude.{◌≤◌, length};
+ghost use Rattle.std.specs.Prelude.{◌≡◌, ◌≤◌, ◌<◌, length};
 ghost use Rattle.volume_block.specs.Valid.{IsLabel};
 
 use super::*;
+use crate::sealing::seal;
 use room_base::{Cart, CopyNo, Moment, Ssid, Volid};
 use std::test::*;
 
@@ -83,4 +84,81 @@ fn put_abc(payload: &mut [u8])
 {
     write_chunk_head(Ssid(1), CopyNo(1), 0, 3, payload);
     payload[CHUNK_HEAD_SIZE..CHUNK_HEAD_SIZE + 3].copy_from_slice(b"abc");
+}
+
+// What is wrong with a mark of which one byte is another.
+fn why_of(place: usize, byte: u8) -> Option<Reason>
+    requires { place < 4096 }
+{
+    let mut block = [0u8; BLOCK_SIZE];
+    encode_mark(RAW_VOLID, 1, 1, &mut block);
+    block[place] = byte;
+    match decode_block(&block, RAW_VOLID, 1) {
+        Ok(_) => None,
+        Err(bad) => Some(bad.why),
+    }
+}
+
+#[test]
+fn first_wrong_part(rt: HostRuntime) {
+    assert_eq!(rt; why_of(0, b'F'), None);
+    assert_eq!(rt; why_of(0, b'L'), Some(Reason::Kind));
+    assert_eq!(rt; why_of(1, 2), Some(Reason::Form));
+    assert_eq!(rt; why_of(3, 1), Some(Reason::Form));
+    assert_eq!(rt; why_of(15, 2), Some(Reason::Volid));
+    assert_eq!(rt; why_of(23, 2), Some(Reason::Number));
+    assert_eq!(rt; why_of(6, 16), Some(Reason::Length));
+    assert_eq!(rt; why_of(4095, 1), Some(Reason::Length));
+    assert_eq!(rt; why_of(24, 0), Some(Reason::Digest));
+    assert_eq!(rt; why_of(59, 2), Some(Reason::Digest));
+    let mut none = [0u8; BLOCK_SIZE];
+    seal(b'F', 1, 1, 4, &mut none);
+    assert!(rt;
+        matches!(
+            decode_block(&none, Volid(1), 1),
+            Err(BadBlock {
+                why: Reason::Payload
+            })
+        )
+    );
+}
+
+#[test]
+fn label_again(rt: HostRuntime) {
+    let mut block = [0u8; BLOCK_SIZE];
+    encode_label(&raw_label(), &mut block);
+    assert_eq!(rt; decode_label(&block), Ok(raw_label()));
+    assert_eq!(rt;
+        decode_block(&block, RAW_VOLID, 0),
+        Ok(Block::Label(raw_label()))
+    );
+}
+
+// The first chunk, and that behind it.
+fn two_chunks(block: &[u8]) -> (Option<Chunk>, Option<Chunk>)
+    requires { length block.now ≡ 4096 }
+{
+    let Ok(Block::Data { .. }) = decode_block(block, RAW_VOLID, 2) else {
+        return (None, None);
+    };
+    match next_chunk(block, 0) {
+        Some(first) => (Some(first), next_chunk(block, first.next)),
+        None => (None, None),
+    }
+}
+
+#[test]
+fn chunks(rt: HostRuntime) {
+    let mut block = [0u8; BLOCK_SIZE];
+    put_abc(&mut block[PAYLOAD_START..]);
+    seal_data(RAW_VOLID, 2, 27, &mut block);
+    let first = Chunk {
+        ssid: Ssid(1),
+        copy: CopyNo(1),
+        offset: 0,
+        length: 3,
+        start: 80,
+        next: 27,
+    };
+    assert_eq!(rt; two_chunks(&block), (Some(first), None));
 }

@@ -6,7 +6,7 @@ use Rattle.volume_block.specs.Layout.{block_text}
 use Rattle.volume_block.specs.Valid.{IsLabel, label_text, label_payload}
 use Rattle.volume_block.specs.Region.{closed_block}
 use Rattle.volume_block.specs.declared.label.Label.{Label}
-use Rattle.volume_block.proofs.Lengths.{length-block_text, length-closed_block}
+use Rattle.volume_block.proofs.Lengths.{length-label_text, length-closed_block}
 use Rattle.room_disk.specs.Crash.{overlaid, Torn, GatedTorn}
 use Rattle.room_disk.proofs.Overlay.{letter_whole}
 use Rattle.volume_store.specs.Committed.{block_at, kind_at, Committed, Unlabelled}
@@ -33,11 +33,6 @@ overlaid_first text file long is =
     let none : 0 - length file ≡ 0 = omega arith in
     let from : 0 + length text ≡ long = omega (arith, is) in
     ap (λ count. replicate {A = ℕ} count 0 ++ text ++ drop (0 + length text) file) none ∙ ap (λ count. text ++ drop count file) from
-
-pub length-label_text : (label : Label) → IsLabel label → length (label_text label) ≡ 4096
-length-label_text label allowed =
-    length-block_text 0x4C label.volid.0 0 (label_payload label)
-        (omega (arith, length-take label.pool_length label.pool, allowed.pool_length.1))
 
 -- the gate letter in front of the rest
 pub label_gate : (label : Label) (rest : List ℕ) → 0x4C ∷ drop 1 (label_text label ++ rest) ≡ label_text label ++ rest

@@ -2,7 +2,8 @@ use Rattle.std.proofs.Common.{◌≡◌, ℕ, List, ◌∷◌, subst}
 use Rattle.std.specs.Prelude.{OnOk}
 use Rattle.room_disk.specs.Crash.{overlaid, GatedTorn}
 use Rattle.room_disk.proofs.Runs.{on_file_weaker}
-use Rattle.volume_store.proofs.Labelling.{opens_labelled, opening_torn, length-label_text}
+use Rattle.volume_block.proofs.Lengths.{length-label_text}
+use Rattle.volume_store.proofs.Labelling.{opens_labelled, opening_torn}
 use Rattle.volume_store.specs.Writes.{labelled, IsOpening}
 use Rattle.volume_store.proofs.label.open_label.Goals as goal
 

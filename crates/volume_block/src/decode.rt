@@ -1,0 +1,155 @@
+//! Reads blocks. None of these functions takes memory.
+
+ghost use Rattle.std.specs.Prelude.{◌≡◌, ◌≤◌, ◌↔◌, length, All, IsTrue, MatchOption, MatchResult};
+ghost use Rattle.volume_block.specs.Why.{IsKindAt, HasForm, IsPadded, HasDigest, volid_in, number_in, payload_in, AreRightBelow, IsPayload, SaysBlock, Why};
+ghost use Rattle.volume_block.specs.Valid.{ValidBlock};
+
+use crate::block::{BadBlock, Block, PAYLOAD_SIZE, Reason};
+use crate::chunks::are_chunks;
+use crate::label::Label;
+use crate::layout::{
+    DATA_KIND, FORM, FORM_PLACE, HEAD_SIZE, LABEL_KIND, MARK_KIND, NUMBER_PLACE, PAYLOAD_START,
+    VOLID_PLACE, used_length,
+};
+use crate::payload::{label_in, mark_count};
+use crate::sealing::digest_of;
+use byteorder::{BigEndian, ByteOrder};
+use room_base::Volid;
+
+/// Reads the block with this number of this volume. Of several wrong parts the first is named.
+pub fn decode_block(bytes: &[u8], volid: Volid, number: u64) -> Result<Block, BadBlock>
+    requires { length bytes.now ≡ 4096 }
+    ensures decoded { MatchResult result (ValidBlock bytes.now volid.0 number) (λ bad. Why bytes.now volid.0 number bad.why) }
+    ensures only { (block : Block) → ValidBlock bytes.now volid.0 number block → result ≡ Ok block }
+{
+    if let Some(why) = fault_before_payload(bytes, volid, number) {
+        return Err(BadBlock { why });
+    }
+    match block_in(bytes[0], volid, payload_of(bytes)) {
+        Some(block) => Ok(block),
+        None => Err(BadBlock {
+            why: Reason::Payload,
+        }),
+    }
+}
+
+/// Reads the label of a volume whose volid is not known before.
+pub fn decode_label(bytes: &[u8]) -> Result<Label, BadBlock>
+    requires { length bytes.now ≡ 4096 }
+    ensures decoded { MatchResult result (λ label. ValidBlock bytes.now label.volid.0 0 (Block.Label label)) (λ bad. Why bytes.now (volid_in bytes.now) 0 bad.why) }
+    ensures only { (label : Label) → ValidBlock bytes.now label.volid.0 0 (Block.Label label) → result ≡ Ok label }
+{
+    let volid = Volid(BigEndian::read_u64(&bytes[VOLID_PLACE..]));
+    if let Some(why) = fault_before_payload(bytes, volid, 0) {
+        return Err(BadBlock { why });
+    }
+    match label_in(volid, payload_of(bytes)) {
+        Some(label) => Ok(label),
+        None => Err(BadBlock {
+            why: Reason::Payload,
+        }),
+    }
+}
+
+// The block that a payload says behind a head of this kind.
+fn block_in(kind: u8, volid: Volid, payload: &[u8]) -> Option<Block>
+    requires volume { 1 ≤ volid.0 }
+    requires fits { length payload.now ≤ 4040 }
+    ensures { MatchOption result (¬ IsPayload kind volid.0 payload.now) (SaysBlock kind volid.0 payload.now) }
+{
+    match kind {
+        LABEL_KIND => Some(Block::Label(label_in(volid, payload)?)),
+        MARK_KIND => Some(Block::Mark {
+            count: mark_count(payload)?,
+        }),
+        DATA_KIND if are_chunks(payload) => Some(Block::Data {
+            used: payload.len() as u32,
+        }),
+        _ => None,
+    }
+}
+
+// The used bytes of the payload.
+fn payload_of(bytes: &[u8]) -> &[u8]
+    requires whole { length bytes.now ≡ 4096 }
+    requires padded { IsPadded bytes.now }
+    ensures { result.now ≡ payload_in bytes.now }
+{
+    let used = used_length(bytes) as usize;
+    &bytes[PAYLOAD_START..PAYLOAD_START + used]
+}
+
+fn is_kind_at(kind: u8, number: u64) -> bool
+    ensures { IsTrue result ↔ IsKindAt kind number }
+{
+    if number == 0 {
+        kind == LABEL_KIND
+    } else {
+        kind == MARK_KIND || kind == DATA_KIND
+    }
+}
+
+fn has_form(bytes: &[u8]) -> bool
+    requires { 4 ≤ length bytes.now }
+    ensures { IsTrue result ↔ HasForm bytes.now }
+{
+    bytes[FORM_PLACE] == FORM && bytes[FORM_PLACE + 1] == 0 && bytes[FORM_PLACE + 2] == 0
+}
+
+fn is_padded(bytes: &[u8]) -> bool
+    requires { length bytes.now ≡ 4096 }
+    ensures { IsTrue result ↔ IsPadded bytes.now }
+{
+    let used = used_length(bytes) as usize;
+    used <= PAYLOAD_SIZE && are_zeros(&bytes[PAYLOAD_START + used..])
+}
+
+fn are_zeros(bytes: &[u8]) -> bool
+    ensures { IsTrue result ↔ All (λ byte. byte ≡ 0) bytes.now }
+{
+    bytes.iter().all(|byte| *byte == 0)
+}
+
+fn has_digest(bytes: &[u8]) -> bool
+    requires { 56 ≤ length bytes.now }
+    ensures { IsTrue result ↔ HasDigest bytes.now }
+{
+    let digest = digest_of(bytes);
+    &bytes[HEAD_SIZE..PAYLOAD_START] == digest.as_slice()
+}
+
+fn has_volid(bytes: &[u8], volid: Volid) -> bool
+    requires { 24 ≤ length bytes.now }
+    ensures { IsTrue result ↔ ((volid_in bytes.now ≡ volid.0) × (1 ≤ volid.0)) }
+{
+    BigEndian::read_u64(&bytes[VOLID_PLACE..]) == volid.0 && volid.0 >= 1
+}
+
+fn has_number(bytes: &[u8], number: u64) -> bool
+    requires { 24 ≤ length bytes.now }
+    ensures { IsTrue result ↔ (number_in bytes.now ≡ number) }
+{
+    BigEndian::read_u64(&bytes[NUMBER_PLACE..]) == number
+}
+
+// The first wrong part before the payload.
+fn fault_before_payload(bytes: &[u8], volid: Volid, number: u64) -> Option<Reason>
+    requires { length bytes.now ≡ 4096 }
+    ensures { MatchOption result (AreRightBelow 6 bytes.now volid.0 number) (Why bytes.now volid.0 number) }
+{
+    if !is_kind_at(bytes[0], number) {
+        Some(Reason::Kind)
+    } else if !has_form(bytes) {
+        Some(Reason::Form)
+    } else if !has_volid(bytes, volid) {
+        Some(Reason::Volid)
+    } else if !has_number(bytes, number) {
+        Some(Reason::Number)
+    } else if !is_padded(bytes) {
+        Some(Reason::Length)
+    } else if !has_digest(bytes) {
+        Some(Reason::Digest)
+    } else {
+        None
+    }
+}
