@@ -24,10 +24,10 @@ impl Model for MemSink {
     ghost Value = { SinkInMemory };
 
     ghost view = { λ sink. record {
-        written = sink.bytes.items;
-        calls = sink.calls;
-        faults = sink.faults;
-        short = sink.short
+      written = sink.bytes.items;
+      calls = sink.calls;
+      faults = sink.faults;
+      short = sink.short;
     } };
 }
 
@@ -35,10 +35,10 @@ impl MemSink {
     /// `failing` holds the numbers of the calls that are to fail, counted from 1.
     pub fn new(alloc: Global, failing: Vec<u64>) -> MemSink
         ensures { result ≡ record {
-            written = [];
-            calls = record { failing = failing.items; made = 0 };
-            faults = 0;
-            short = 0
+          written = [];
+          calls = record { failing = failing.items; made = 0 };
+          faults = 0;
+          short = 0;
         } }
     {
         MemSink {

@@ -23,10 +23,10 @@ impl Model for MemSource {
     ghost Value = { SourceInMemory };
 
     ghost view = { λ source. record {
-        taken = take source.at source.bytes.items;
-        left = drop source.at source.bytes.items;
-        calls = source.calls;
-        faults = source.faults
+      taken = take source.at source.bytes.items;
+      left = drop source.at source.bytes.items;
+      calls = source.calls;
+      faults = source.faults;
     } };
 
     ghost invariant = { λ source. source.at ≤ vec_len source.bytes };
@@ -36,10 +36,10 @@ impl MemSource {
     /// `failing` holds the numbers of the calls that are to fail, counted from 1.
     pub fn new(bytes: Vec<u8>, failing: Vec<u64>) -> MemSource
         ensures { result ≡ record {
-            taken = [];
-            left = bytes.items;
-            calls = record { failing = failing.items; made = 0 };
-            faults = 0
+          taken = [];
+          left = bytes.items;
+          calls = record { failing = failing.items; made = 0 };
+          faults = 0;
         } }
     {
         MemSource {

@@ -23,9 +23,9 @@ impl Model for SetClock {
     ghost Value = { ClockInMemory };
 
     ghost view = { λ clock. record {
-        moments = drop clock.at clock.moments.items;
-        calls = clock.calls;
-        faults = clock.faults
+      moments = drop clock.at clock.moments.items;
+      calls = clock.calls;
+      faults = clock.faults;
     } };
 
     ghost invariant = { λ clock. clock.at < vec_len clock.moments };
@@ -36,9 +36,9 @@ impl SetClock {
     pub fn new(moments: Vec<Moment>, failing: Vec<u64>) -> SetClock
         requires { 0 < vec_len moments }
         ensures { result ≡ record {
-            moments = moments.items;
-            calls = record { failing = failing.items; made = 0 };
-            faults = 0
+          moments = moments.items;
+          calls = record { failing = failing.items; made = 0 };
+          faults = 0;
         } }
     {
         SetClock {

@@ -5,14 +5,29 @@ use std::test::Fail;
 fn texts_are_read_by_their_rules(rt: HostRuntime) -> Result<(), Fail> {
     let alloc = rt.alloc();
     assert_eq!(rt; Name::read(alloc, b"alpha", 5).ok().is_some(), true);
-    assert_eq!(rt; Name::read(alloc, b"alpha", 4).err(), Some(NameFault::Length));
+    assert_eq!(rt;
+        Name::read(alloc, b"alpha", 4).err(),
+        Some(NameFault::Length)
+    );
     assert_eq!(rt; Name::read(alloc, b"", 4).err(), Some(NameFault::Length));
-    assert_eq!(rt; Name::read(alloc, b"a\nb", 4).err(), Some(NameFault::NotText));
-    assert_eq!(rt; Name::read(alloc, b"a\x7fb", 4).err(), Some(NameFault::NotText));
-    assert_eq!(rt; Name::read(alloc, b"\xff", 4).err(), Some(NameFault::NotText));
+    assert_eq!(rt;
+        Name::read(alloc, b"a\nb", 4).err(),
+        Some(NameFault::NotText)
+    );
+    assert_eq!(rt;
+        Name::read(alloc, b"a\x7fb", 4).err(),
+        Some(NameFault::NotText)
+    );
+    assert_eq!(rt;
+        Name::read(alloc, b"\xff", 4).err(),
+        Some(NameFault::NotText)
+    );
     assert_eq!(rt; Name::path(alloc, b"/a\nb").ok().is_some(), true);
     assert_eq!(rt; Name::path(alloc, b"a").err(), Some(NameFault::NotText));
-    assert_eq!(rt; Name::path(alloc, &[b'/'; 1025]).err(), Some(NameFault::Length));
+    assert_eq!(rt;
+        Name::path(alloc, &[b'/'; 1025]).err(),
+        Some(NameFault::Length)
+    );
     Ok(())
 }
 
@@ -62,11 +77,37 @@ fn refusals_have_their_texts(rt: HostRuntime) -> Result<(), Fail> {
     let alloc = rt.alloc();
     let name = |text| Name::from_text(alloc, text);
     let texts = [
-        (Refusal::Malformed { field: name("input")? }, "1 Malformed field=input"),
-        (Refusal::Exists { kind: name("cart")?, name: name("7")? }, "3 Exists kind=cart name=7"),
-        (Refusal::DriveBusy { drive: 2, volid: Volid(9) }, "17 DriveBusy drive=2 volid=9"),
-        (Refusal::DamagedBlock { volid: Volid(1), block: 3 }, "24 DamagedBlock volid=1 block=3"),
-        (Refusal::TooMany { limit: 257_024 }, "29 TooMany limit=257024"),
+        (
+            Refusal::Malformed {
+                field: name("input")?,
+            },
+            "1 Malformed field=input",
+        ),
+        (
+            Refusal::Exists {
+                kind: name("cart")?,
+                name: name("7")?,
+            },
+            "3 Exists kind=cart name=7",
+        ),
+        (
+            Refusal::DriveBusy {
+                drive: 2,
+                volid: Volid(9),
+            },
+            "17 DriveBusy drive=2 volid=9",
+        ),
+        (
+            Refusal::DamagedBlock {
+                volid: Volid(1),
+                block: 3,
+            },
+            "24 DamagedBlock volid=1 block=3",
+        ),
+        (
+            Refusal::TooMany { limit: 257_024 },
+            "29 TooMany limit=257024",
+        ),
         (Refusal::NoMemory, "32 NoMemory"),
     ];
     for (refusal, text) in &texts {
@@ -74,7 +115,10 @@ fn refusals_have_their_texts(rt: HostRuntime) -> Result<(), Fail> {
     }
     let closed = Items::of(vec![in alloc; Ssid(1), Ssid(4)]?);
     let fault = Refusal::DeviceFault { file: 2, closed };
-    assert_eq!(rt; format!(in alloc; "{fault}")?.as_str(), "30 DeviceFault file=2 closed=1,4");
+    assert_eq!(rt;
+        format!(in alloc; "{fault}")?.as_str(),
+        "30 DeviceFault file=2 closed=1,4"
+    );
     let digest = Refusal::WrongDigest { kept: [0xab; 32] };
     let text = format!(in alloc; "{digest}")?;
     assert!(rt; text.as_str().starts_with("15 WrongDigest kept=abab"));

@@ -16,8 +16,8 @@ blocks_text-push volid first [] chunks =
     append-nil (data_text volid first chunks) ∙ ap (λ number. data_text volid number chunks) (let here : first ≡ first + 0 = omega arith in here)
 blocks_text-push volid first (this ∷ blocks) chunks =
     ap (λ text. data_text volid first this ++ text) (blocks_text-push volid (first + 1) blocks chunks
-        ∙ ap (λ number. blocks_text volid (first + 1) blocks ++ data_text volid number chunks)
-            (let next : first + 1 + length blocks ≡ first + length (this ∷ blocks) = omega arith in next))
+    ∙ ap (λ number. blocks_text volid (first + 1) blocks ++ data_text volid number chunks)
+    (let next : first + 1 + length blocks ≡ first + length (this ∷ blocks) = omega arith in next))
     ∙ sym (append_assoc (data_text volid first this) (blocks_text volid (first + 1) blocks) (data_text volid (first + length (this ∷ blocks)) chunks))
 
 pub AreBlocks-push : (blocks : List (List ChunkText)) (chunks : List ChunkText) → AreBlocks blocks → AreChunks chunks
@@ -34,18 +34,27 @@ all_chunks-push (this ∷ blocks) chunk =
 -- a chunk that goes on where the others end
 pub JoinFrom-push : (ssid offset : ℕ) (chunks : List ChunkText) (bytes piece : List ℕ) → JoinFrom ssid 1 offset chunks bytes
     → JoinFrom ssid 1 offset (chunks ++ record { ssid = ssid; copy = 1; offset = offset + length bytes; bytes = piece } ∷ []) (bytes ++ piece)
-JoinFrom-push ssid offset [] bytes piece joins =
-    (refl, refl, rw joins (let here : offset + 0 ≡ offset = omega arith in here),
-        ([], ap (λ front. front ++ piece) joins ∙ sym (append-nil piece), refl))
+JoinFrom-push ssid offset [] bytes piece joins = (
+  refl,
+  refl,
+  rw joins (let here : offset + 0 ≡ offset = omega arith in here),
+  ([], ap (λ front. front ++ piece) joins ∙ sym (append-nil piece), refl),
+)
 JoinFrom-push ssid offset (chunk ∷ chunks) bytes piece joins =
     let rest = joins.3.0 in
     let place : offset + length chunk.bytes + length rest ≡ offset + length bytes =
-        omega (arith, ap length joins.3.1, length-append chunk.bytes rest) in
-    (joins.0, joins.1, joins.2,
-        (rest ++ piece, ap (λ front. front ++ piece) joins.3.1 ∙ append_assoc chunk.bytes rest piece,
-         (let P : ℕ → Type 0 = λ at. JoinFrom ssid 1 (offset + length chunk.bytes)
-              (chunks ++ record { ssid = ssid; copy = 1; offset = at; bytes = piece } ∷ []) (rest ++ piece) in
-          subst P place (JoinFrom-push ssid (offset + length chunk.bytes) chunks rest piece joins.3.2))))
+    omega (arith, ap length joins.3.1, length-append chunk.bytes rest) in (
+      joins.0,
+      joins.1,
+      joins.2,
+      (
+        rest ++ piece,
+        ap (λ front. front ++ piece) joins.3.1 ∙ append_assoc chunk.bytes rest piece,
+        (let P : ℕ → Type 0 = λ at. JoinFrom ssid 1 (offset + length chunk.bytes)
+            (chunks ++ record { ssid = ssid; copy = 1; offset = at; bytes = piece } ∷ []) (rest ++ piece) in
+            subst P place (JoinFrom-push ssid (offset + length chunk.bytes) chunks rest piece joins.3.2)),
+      ),
+    )
 
 -- a chunk of at most 4,016 bytes fills a data block
 pub one_chunk : (offset : ℕ) (piece : List ℕ) → 1 ≤ length piece → length piece ≤ 4016 → offset + length piece ≤ 2 ^ 36
@@ -54,16 +63,17 @@ one_chunk offset piece some fits ends = record {
   some = λ none. cc;
   fit = omega (arith, length-append piece [], fits);
   each = All-from_recursion IsChunk (raw_chunk offset piece ∷ [])
-      (record { ssid = (omega arith, omega arith); copy = (omega arith, omega arith); some = some; ends = ends }, tt) }
+      (record { ssid = (omega arith, omega arith); copy = (omega arith, omega arith); some = some; ends = ends }, tt);
+}
 
 joined_more : (blocks : List (List ChunkText)) (offset : ℕ) (done piece : List ℕ) → offset ≡ length done → JoinTo 1 blocks done
     → JoinTo 1 (blocks ++ (raw_chunk offset piece ∷ []) ∷ []) (done ++ piece)
 joined_more blocks offset done piece place joined =
     let P : List ChunkText → Type 0 = λ chunks. JoinFrom 1 1 0 chunks (done ++ piece) in
     let chunk : raw_chunk (0 + length done) piece ≡ raw_chunk offset piece =
-        ap (λ at. raw_chunk at piece) (let here : 0 + length done ≡ offset = omega (arith, place) in here) in
+    ap (λ at. raw_chunk at piece) (let here : 0 + length done ≡ offset = omega (arith, place) in here) in
     subst P (ap (λ one. all_chunks blocks ++ one ∷ []) chunk ∙ sym (all_chunks-push blocks (raw_chunk offset piece)))
-        (JoinFrom-push 1 0 (all_chunks blocks) done piece joined)
+    (JoinFrom-push 1 0 (all_chunks blocks) done piece joined)
 
 -- So far these blocks are behind the start, and hold the bytes that aren't left. Each block but the last is full.
 pub record IsFilled (start region : List ℕ) (volid number : ℕ) (bytes rest : List ℕ) : Type 0 where
@@ -109,7 +119,8 @@ fill_more start region new volid number offset count bytes rest piece after fill
       joined = joined_more blocks offset filled.done piece (omega (arith, place, whole)) filled.joined;
       most = omega (arith, filled.full some, blocks_long, done_long, piece_long, size);
       full = λ left. omega (arith, filled.full some, blocks_long, done_long, piece_long, after_long, size, left);
-      least = omega (arith, filled.full some, blocks_long, done_long, piece_long, size) }
+      least = omega (arith, filled.full some, blocks_long, done_long, piece_long, size);
+    }
 
 -- a region whose blocks hold all bytes is sealed
 pub filled_sealed : (mark region new : List ℕ) (volid number count : ℕ) (bytes : List ℕ)
@@ -119,12 +130,16 @@ pub filled_sealed : (mark region new : List ℕ) (volid number count : ℕ) (byt
 filled_sealed mark region new volid number count bytes filled opened size some fits from to is =
     let whole : bytes ≡ filled.done = filled.split ∙ append-nil filled.done in
     let long : length bytes ≡ length filled.done = ap length whole in
-    let counted : length filled.blocks ≡ count = omega (arith, size, filled.most, filled.least, long, from) in
-    (filled.blocks, counted, record {
+    let counted : length filled.blocks ≡ count = omega (arith, size, filled.most, filled.least, long, from) in (
+      filled.blocks,
+      counted,
+      record {
         of_volume = (some, fits);
         counted = (omega (arith, filled.most, filled.least, long), omega (arith, filled.most, filled.least, long));
         placed = (omega arith, omega arith);
         allowed = filled.allowed;
         text = is ∙ ap (λ r. r ++ closed_block) (filled.text ∙ ap (λ m. m ++ blocks_text volid 2 filled.blocks)
-            (opened ∙ ap (λ n. closed (mark_text volid 1 n)) (sym counted))) },
-     (let P : List ℕ → Type 0 = JoinTo 1 filled.blocks in subst P (sym whole) filled.joined))
+            (opened ∙ ap (λ n. closed (mark_text volid 1 n)) (sym counted)));
+      },
+      (let P : List ℕ → Type 0 = JoinTo 1 filled.blocks in subst P (sym whole) filled.joined),
+    )

@@ -27,7 +27,7 @@ pub put_run : (old mid new : DiskView) (file cart made : ℕ) (bytes : List ℕ)
 put_run old mid new file cart made bytes blocks quiet joined run =
     let P : List ℕ → Type 0 = IsPut cart bytes (old.reads file) in
     leaves_then old mid new (OnFile file P old)
-        (leaves_none old mid (OnFile file P old) quiet)
-        (leaves_weaker mid new (OnFile file (IsFirstFile (raw_label cart made) blocks (mid.reads file)) mid) (OnFile file P old) run
-            (on_file_then file (IsFirstFile (raw_label cart made) blocks (mid.reads file)) P old mid (others_quiet file old mid quiet)
-                (λ disk first. first_is_put cart made bytes (mid.reads file) (old.reads file) disk blocks joined (quiet.reads file) first)))
+    (leaves_none old mid (OnFile file P old) quiet)
+    (leaves_weaker mid new (OnFile file (IsFirstFile (raw_label cart made) blocks (mid.reads file)) mid) (OnFile file P old) run
+    (on_file_then file (IsFirstFile (raw_label cart made) blocks (mid.reads file)) P old mid (others_quiet file old mid quiet)
+    (λ disk first. first_is_put cart made bytes (mid.reads file) (old.reads file) disk blocks joined (quiet.reads file) first)))

@@ -25,4 +25,5 @@ raw_allowed cart made known early = record {
   pool_length = (omega arith, omega arith);
   room = refl;
   pool = raw_is_name;
-  zeros = refl }
+  zeros = refl;
+}

@@ -11,13 +11,14 @@ pub fills_more : (before mid after buffer space : List ℕ) (taken count : ℕ) 
 fills_more before mid after buffer space taken count so_far inside enough left given = record {
   enough = omega (arith, so_far.enough, enough, ap length so_far.left, length-drop taken before);
   filled =
-    (let front : length (take taken buffer) ≡ taken = length-take-le taken buffer inside in
-     ap (λ n. take (n + count) (take taken buffer ++ space)) (sym front)
-     ∙ take-append-add (take taken buffer) space count
-     ∙ ap (λ f. f ++ take count space) so_far.filled
-     ∙ ap (λ g. take taken before ++ g) (given ∙ ap (take count) so_far.left)
-     ∙ sym (take-add taken count before));
-  left = left ∙ ap (drop count) so_far.left ∙ drop-drop count taken before }
+      (let front : length (take taken buffer) ≡ taken = length-take-le taken buffer inside in
+      ap (λ n. take (n + count) (take taken buffer ++ space)) (sym front)
+      ∙ take-append-add (take taken buffer) space count
+      ∙ ap (λ f. f ++ take count space) so_far.filled
+      ∙ ap (λ g. take taken before ++ g) (given ∙ ap (take count) so_far.left)
+      ∙ sym (take-add taken count before));
+  left = left ∙ ap (drop count) so_far.left ∙ drop-drop count taken before;
+}
 
 -- a buffer with all the bytes that were left
 pub fills_all : (before after buffer : List ℕ) (taken : ℕ) → Fills before after buffer taken → after ≡ [] → take taken buffer ≡ before

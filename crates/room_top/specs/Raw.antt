@@ -12,7 +12,8 @@ raw_label cart made = record {
   capacity = 1000000;
   made = record { 0 = made };
   pool_length = 3;
-  pool = 0x52 ∷ 0x61 ∷ 0x77 ∷ replicate 61 0 }
+  pool = 0x52 ∷ 0x61 ∷ 0x77 ∷ replicate 61 0;
+}
 
 -- a chunk of save set 1, copy 1
 abbrev pub raw_chunk : ℕ → List ℕ → ChunkText

@@ -32,14 +32,14 @@ pub fn store_first_file<D: Store>(
     ensures stored { Told (D.view disk.old).tells ((blocks : List (List ChunkText))
         → IsSealed label.now.volid.0 1 blocks region.now
         → OnOk result (Committed ((D.view disk.new).reads (file_of label.now.cart.0))
-            (with_file label.now [] 1 blocks))) }
+        (with_file label.now [] 1 blocks))) }
     ensures settled { Told (D.view disk.old).tells
         (OnOk result (Settled (D.view disk.new) (file_of label.now.cart.0))) }
     ensures moments { Told (D.view disk.old).tells ((blocks : List (List ChunkText))
         → IsSealed label.now.volid.0 1 blocks region.now
         → Settled (D.view disk.old) (file_of label.now.cart.0)
         → Leaves (D.view disk.old) (D.view disk.new) (OnFile (file_of label.now.cart.0)
-            (IsFirstFile label.now blocks ((D.view disk.old).reads (file_of label.now.cart.0))) (D.view disk.old))) }
+        (IsFirstFile label.now blocks ((D.view disk.old).reads (file_of label.now.cart.0))) (D.view disk.old))) }
 {
     write_label(disk, label)?;
     let mut volume = Volume {

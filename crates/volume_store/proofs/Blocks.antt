@@ -15,10 +15,10 @@ pub part_same : (size at place : ℕ) (old new : List ℕ) → SameBelow place o
 part_same size at place old new same ends = ext_get_or 0 _ _
     (omega (arith, length-take size (drop at new), length-take size (drop at old), length-drop at new, length-drop at old, same.in_old, same.in_new))
     (λ k h.
-        let below : k < size = omega (arith, length-take size (drop at new)) in
-        get_or-take size (drop at new) k 0 below ∙ get_or-drop at new k 0
-        ∙ same.bytes (at + k) (omega arith)
-        ∙ sym (get_or-take size (drop at old) k 0 below ∙ get_or-drop at old k 0))
+    let below : k < size = omega (arith, length-take size (drop at new)) in
+    get_or-take size (drop at new) k 0 below ∙ get_or-drop at new k 0
+    ∙ same.bytes (at + k) (omega arith)
+    ∙ sym (get_or-take size (drop at old) k 0 below ∙ get_or-drop at old k 0))
 
 pub block_same : (place number : ℕ) (old new : List ℕ) → SameBelow place old new → 4096 * number + 4096 ≤ place
     → block_at new number ≡ block_at old number

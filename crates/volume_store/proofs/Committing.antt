@@ -26,14 +26,16 @@ places_behind bytes before rest volid first (chunks ∷ blocks) is from volume s
     let next = blocks_text volid (first + 1) blocks in
     let long : length this ≡ 4096 = length-data_text volid first chunks allowed.0.fit in
     let split : bytes ≡ before ++ this ++ next ++ rest = is ∙ ap (λ front. front ++ rest) (sym (append_assoc before this next)) in
-    let here : bytes ≡ before ++ this ++ (next ++ rest) = split ∙ append_assoc (before ++ this) next rest in
-    (record {
+    let here : bytes ≡ before ++ this ++ (next ++ rest) = split ∙ append_assoc (before ++ this) next rest in (
+      record {
         of_volume = volume;
         placed = (some, omega (arith, last));
         allowed = allowed.0;
-        text = ap (λ whole. block_at whole first) here ∙ block_behind first before this (next ++ rest) from long },
-     places_behind bytes (before ++ this) rest volid (first + 1) blocks split
-        (omega (arith, length-append before this, from, long)) volume (omega arith) (omega (arith, last)) allowed.1)
+        text = ap (λ whole. block_at whole first) here ∙ block_behind first before this (next ++ rest) from long;
+      },
+      places_behind bytes (before ++ this) rest volid (first + 1) blocks split
+          (omega (arith, length-append before this, from, long)) volume (omega arith) (omega (arith, last)) allowed.1,
+    )
 
 -- zeros begin with a zero
 pub first_zero : (count : ℕ) → replicate {A = ℕ} (suc count) 0 ≡ 0 ∷ replicate count 0
@@ -57,30 +59,36 @@ file_behind bytes before rest volid mark blocks region is from sealed =
     let open_mark = mark_text volid mark (length blocks) in
     let data_blocks = blocks_text volid (mark + 1) blocks in
     let first : bytes ≡ before ++ open_mark ++ (data_blocks ++ closed_block ++ rest) =
-        is ∙ regrouped before open_mark data_blocks closed_block rest in
+    is ∙ regrouped before open_mark data_blocks closed_block rest in
     let second : bytes ≡ before ++ open_mark ++ data_blocks ++ (closed_block ++ rest) =
-        is ∙ regrouped_next before open_mark data_blocks closed_block rest in
+    is ∙ regrouped_next before open_mark data_blocks closed_block rest in
     let third : bytes ≡ before ++ open_mark ++ data_blocks ++ 0 ∷ (replicate 4095 0 ++ rest) =
-        second ∙ ap (λ zeros. before ++ open_mark ++ data_blocks ++ (zeros ++ rest)) (first_zero 4095) in
+    second ∙ ap (λ zeros. before ++ open_mark ++ data_blocks ++ (zeros ++ rest)) (first_zero 4095) in
     let count : length (map Whole blocks) ≡ length blocks = length-map blocks Whole in
     let mark_long : length open_mark ≡ 4096 = length-mark_text volid mark (length blocks) in
     let blocks_long : length data_blocks ≡ 4096 * length blocks = length-blocks_text volid (mark + 1) blocks sealed.allowed in
     let behind : length (before ++ open_mark ++ data_blocks) ≡ 4096 * (mark + length (map Whole blocks) + 1) =
-        omega (arith, length-append (before ++ open_mark) data_blocks, length-append before open_mark, from, mark_long, blocks_long, count) in
-    (refl,
-     (sealed.of_volume, (sealed.placed.0, omega (arith, sealed.placed.1)),
+    omega (arith, length-append (before ++ open_mark) data_blocks, length-append before open_mark, from, mark_long, blocks_long, count) in (
+      refl,
+      (
+        sealed.of_volume,
+        (sealed.placed.0, omega (arith, sealed.placed.1)),
         (omega (arith, count, sealed.counted.0), omega (arith, count, sealed.counted.1)),
         ap (λ whole. block_at whole mark) first ∙ block_behind mark before open_mark (data_blocks ++ closed_block ++ rest) from mark_long
-        ∙ ap (mark_text volid mark) (sym count)),
-     places_behind bytes (before ++ open_mark) (closed_block ++ rest) volid (mark + 1) blocks second
-        (omega (arith, length-append before open_mark, from, mark_long)) sealed.of_volume (omega arith)
-        (omega (arith, sealed.placed.1, sealed.counted.1)) sealed.allowed,
-     (omega (arith, count),
+            ∙ ap (mark_text volid mark) (sym count),
+      ),
+      places_behind bytes (before ++ open_mark) (closed_block ++ rest) volid (mark + 1) blocks second
+          (omega (arith, length-append before open_mark, from, mark_long)) sealed.of_volume (omega arith)
+          (omega (arith, sealed.placed.1, sealed.counted.1)) sealed.allowed,
+      (
+        omega (arith, count),
         rw third (omega (arith, behind, length-append (before ++ open_mark ++ data_blocks) (0 ∷ (replicate 4095 0 ++ rest)))),
         λ opens. (let zero_byte : kind_at bytes (mark + length (map Whole blocks) + 1) ≡ 0 =
             ap (λ whole. kind_at whole (mark + length (map Whole blocks) + 1)) third
             ∙ byte_behind (4096 * (mark + length (map Whole blocks) + 1)) 0 (before ++ open_mark ++ data_blocks) (replicate 4095 0 ++ rest) behind in
-          absurd (omega (arith, sym zero_byte ∙ opens)))))
+            absurd (omega (arith, sym zero_byte ∙ opens))),
+      ),
+    )
 
 -- a cartridge on which an open region was written at its closed mark place
 pub committed_more : (old new region : List ℕ) (label : Label) (files : List CommittedFile) (mark : ℕ) (blocks : List (List ChunkText))
@@ -91,13 +99,14 @@ committed_more old new region label files mark blocks held sealed is =
     let text = opened region in
     let inside : at < length old = closed_inside old label.volid.0 1 mark files held.1 in
     let split : new ≡ padded at old ++ (mark_text label.volid.0 mark (length blocks) ++ blocks_text label.volid.0 (mark + 1) blocks ++ closed_block) ++ drop (at + length text) old =
-        is ∙ ap (λ shown. padded at old ++ shown ++ drop (at + length text) old) (opened_region label.volid.0 mark blocks region sealed) in
+    is ∙ ap (λ shown. padded at old ++ shown ++ drop (at + length text) old) (opened_region label.volid.0 mark blocks region sealed) in
     let same : SameBelow at old new = record {
       in_old = omega arith;
       in_new = rw is (omega (arith, length-overlaid at text old));
-      bytes = λ k below. rw is (overlaid-before at text old k below) } in
+      bytes = λ k below. rw is (overlaid-before at text old k below);
+    } in
     volume_then old new label files (added_file mark blocks ∷ []) mark (Closed (mark + length blocks + 1)) held same
-        (file_behind new (padded at old) (drop (at + length text) old) label.volid.0 mark blocks region split (length-padded at old) sealed)
+    (file_behind new (padded at old) (drop (at + length text) old) label.volid.0 mark blocks region split (length-padded at old) sealed)
 
 -- the images of a commit
 pub committed_torn : (old new region rest : List ℕ) (label : Label) (files : List CommittedFile) (mark : ℕ) (blocks : List (List ChunkText))
@@ -106,23 +115,26 @@ pub committed_torn : (old new region rest : List ℕ) (label : Label) (files : L
 committed_torn old new region rest label files mark blocks held sealed is (inl torn) =
     let inside : 4096 * mark < length old = closed_inside old label.volid.0 1 mark files held.1 in
     inl (volume_kept old new label files mark held
-        (record {
-          in_old = omega arith;
-          in_new = omega (arith, torn.no_shorter);
-          bytes = λ k below. torn.before k (omega arith) (omega arith) })
-        (omega (arith, torn.no_shorter))
-        (λ opens. closed_byte old label.volid.0 1 mark files held.1 (sym (torn.before (4096 * mark) (omega arith) inside) ∙ opens)))
+    (record {
+      in_old = omega arith;
+      in_new = omega (arith, torn.no_shorter);
+      bytes = λ k below. torn.before k (omega arith) (omega arith);
+    })
+    (omega (arith, torn.no_shorter))
+    (λ opens. closed_byte old label.volid.0 1 mark files held.1 (sym (torn.before (4096 * mark) (omega arith) inside) ∙ opens)))
 committed_torn old new region rest label files mark blocks held sealed is (inr torn) =
     let at = 4096 * mark in
     let whole = overlaid (at + 1) rest old in
     let inside : at < length old = closed_inside old label.volid.0 1 mark files held.1 in
     let long : length whole ≡ max (length old) (at + 1 + length rest) = length-overlaid (at + 1) rest old in
     elim (cases_eq (get_or new at 0) 0x46) [
-        inl opens ↦ inr (committed_more old new region label files mark blocks held sealed
-            (letter_whole at 0x46 rest old new torn opens ∙ ap (λ text. overlaid at text old) (sym is)))
+      | inl opens ↦ inr (committed_more old new region label files mark blocks held sealed
+          (letter_whole at 0x46 rest old new torn opens ∙ ap (λ text. overlaid at text old) (sym is)))
       | inr closed ↦ inl (volume_kept old new label files mark held
-            (record {
-              in_old = omega arith;
-              in_new = omega (arith, torn.no_shorter, long);
-              bytes = λ k below. torn.before k below (omega (arith, long)) ∙ overlaid-before (at + 1) rest old k (omega arith) })
-            (omega (arith, torn.no_shorter, long)) closed) ]
+          (record {
+            in_old = omega arith;
+            in_new = omega (arith, torn.no_shorter, long);
+            bytes = λ k below. torn.before k below (omega (arith, long)) ∙ overlaid-before (at + 1) rest old k (omega arith);
+          })
+          (omega (arith, torn.no_shorter, long)) closed)
+    ]

@@ -38,9 +38,10 @@ place_same old new volid number Damaged same damaged = λ chunks held.
 pub places_same : (limit : ℕ) (old new : List ℕ) (volid first : ℕ) (places : List Place) → SameBelow limit old new
     → 4096 * (first + length places) ≤ limit → ArePlaces old volid first places → ArePlaces new volid first places
 places_same limit old new volid first [] same ends held = tt
-places_same limit old new volid first (place ∷ places) same ends held =
-    (place_same old new volid first place (block_same limit first old new same (omega arith)) held.0,
-        places_same limit old new volid (first + 1) places same (omega arith) held.1)
+places_same limit old new volid first (place ∷ places) same ends held = (
+  place_same old new volid first place (block_same limit first old new same (omega arith)) held.0,
+  places_same limit old new volid (first + 1) places same (omega arith) held.1,
+)
 
 -- files before a closed mark place stay, whatever follows there
 pub files_then : (old new : List ℕ) (volid mark place : ℕ) (files more : List CommittedFile) (end : End)
@@ -50,10 +51,12 @@ files_then old new volid mark place [] more end ends same held =
     let P : ℕ → Type 0 = λ at. FilesFrom new volid at more end in subst P ends.0 held
 files_then old new volid mark place (file ∷ files) more end before same held =
     let next : mark + length file.places + 1 ≤ place = ends_behind old volid (mark + length file.places + 1) place files before.3 in
-    let P : List ℕ → Type 0 = λ block. ValidBlock block volid mark (kinds.Mark (length file.places)) in
-    (before.0, subst P (sym (block_same (4096 * place) mark old new same (omega arith))) before.1,
-        places_same (4096 * place) old new volid (mark + 1) file.places same (omega arith) before.2,
-        files_then old new volid (mark + length file.places + 1) place files more end before.3 same held)
+    let P : List ℕ → Type 0 = λ block. ValidBlock block volid mark (kinds.Mark (length file.places)) in (
+      before.0,
+      subst P (sym (block_same (4096 * place) mark old new same (omega arith))) before.1,
+      places_same (4096 * place) old new volid (mark + 1) file.places same (omega arith) before.2,
+      files_then old new volid (mark + length file.places + 1) place files more end before.3 same held,
+    )
 
 label_same : (limit : ℕ) (old new : List ℕ) (label : Label) → SameBelow limit old new → 4096 ≤ limit
     → HasLabel old label → HasLabel new label
@@ -66,9 +69,10 @@ pub volume_then : (old new : List ℕ) (label : Label) (files more : List Commit
     → Committed old (Labelled label files (Closed mark)) → SameBelow (4096 * mark) old new
     → FilesFrom new label.volid.0 mark more end → Committed new (Labelled label (files ++ more) end)
 volume_then old new label files more mark end held same next =
-    let behind : 1 ≤ mark = ends_behind old label.volid.0 1 mark files held.1 in
-    (label_same (4096 * mark) old new label same (omega arith) held.0,
-        files_then old new label.volid.0 1 mark files more end held.1 same next)
+    let behind : 1 ≤ mark = ends_behind old label.volid.0 1 mark files held.1 in (
+      label_same (4096 * mark) old new label same (omega arith) held.0,
+      files_then old new label.volid.0 1 mark files more end held.1 same next,
+    )
 
 -- the same files, where the mark place is still closed
 pub volume_kept : (old new : List ℕ) (label : Label) (files : List CommittedFile) (mark : ℕ)

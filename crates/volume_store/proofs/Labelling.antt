@@ -1,9 +1,9 @@
 -- A label and the closed block behind it, as they are written.
 use Rattle.std.proofs.Common.{◌≡◌, ◌⊎◌, inl, inr, subst, ℕ, ◌+◌, ◌-◌, ◌<◌, List, [], ◌∷◌, ◌++◌, length, drop, replicate, get_or, refl, sym, ap, ◌∙◌, arith}
-use Rattle.std.proofs.lemmas.List.{append_assoc, length-append, length-take, drop-drop, ext_get_or}
+use Rattle.std.proofs.lemmas.List.{append_assoc, length-append, drop-drop, ext_get_or}
 use Rattle.std.proofs.lemmas.Bool.{cases_eq, cases_lt}
 use Rattle.volume_block.specs.Layout.{block_text}
-use Rattle.volume_block.specs.Valid.{IsLabel, label_text, label_payload}
+use Rattle.volume_block.specs.Valid.{IsLabel, label_text}
 use Rattle.volume_block.specs.Region.{closed_block}
 use Rattle.volume_block.specs.declared.label.Label.{Label}
 use Rattle.volume_block.proofs.Lengths.{length-label_text, length-closed_block}
@@ -24,8 +24,9 @@ untouched : (old new : List ℕ) → Torn 0 (0 ∷ []) old new → get_or new 0 
 untouched old new torn kept some = ext_get_or 0 _ _
     (omega (arith, torn.no_shorter, torn.no_longer))
     (λ k h. elim (cases_lt 0 k) [
-        inl later ↦ torn.behind k (omega arith) (omega (arith, torn.no_longer))
-      | inr first ↦ (let here : k ≡ 0 = omega arith in rw here kept) ])
+      | inl later ↦ torn.behind k (omega arith) (omega (arith, torn.no_longer))
+      | inr first ↦ (let here : k ≡ 0 = omega arith in rw here kept)
+    ])
 
 -- bytes written at the front of a file
 pub overlaid_first : (text file : List ℕ) (long : ℕ) → length text ≡ long → overlaid 0 text file ≡ text ++ drop long file
@@ -53,12 +54,16 @@ labelled_empty label old allowed =
     let long : length text ≡ 4096 = length-label_text label allowed in
     let split : labelled label old ≡ [] ++ text ++ (closed_block ++ drop 8192 old) = append_assoc text closed_block (drop 8192 old) in
     let next : labelled label old ≡ text ++ 0 ∷ (replicate 4095 0 ++ drop 8192 old) =
-        append_assoc text closed_block (drop 8192 old) ∙ ap (λ zeros. text ++ (zeros ++ drop 8192 old)) (first_zero 4095) in
-    ((allowed, refl, refl, ap (λ bytes. block_at bytes 0) split ∙ block_behind 0 [] text (closed_block ++ drop 8192 old) refl long),
-     (refl, rw next (omega (arith, long, length-append text (0 ∷ (replicate 4095 0 ++ drop 8192 old)))),
-      λ opens. (let zero_byte : kind_at (labelled label old) 1 ≡ 0 =
+    append_assoc text closed_block (drop 8192 old) ∙ ap (λ zeros. text ++ (zeros ++ drop 8192 old)) (first_zero 4095) in (
+      (allowed, refl, refl, ap (λ bytes. block_at bytes 0) split ∙ block_behind 0 [] text (closed_block ++ drop 8192 old) refl long),
+      (
+        refl,
+        rw next (omega (arith, long, length-append text (0 ∷ (replicate 4095 0 ++ drop 8192 old)))),
+        λ opens. (let zero_byte : kind_at (labelled label old) 1 ≡ 0 =
             ap (λ bytes. kind_at bytes 1) next ∙ byte_behind 4096 0 text (replicate 4095 0 ++ drop 8192 old) long in
-        absurd (omega (arith, sym zero_byte ∙ opens)))))
+            absurd (omega (arith, sym zero_byte ∙ opens))),
+      ),
+    )
 
 -- a cartridge whose first byte was written as zero is closed
 pub cleared : (old new : List ℕ) → new ≡ overlaid 0 (0 ∷ []) old → IsClosed new
@@ -76,10 +81,12 @@ labelled_closed label old =
 pub closing_torn : (old new : List ℕ) → Torn 0 (0 ∷ []) old new → (new ≡ old) ⊎ Committed new Unlabelled
 closing_torn old new torn =
     elim (cases_eq (get_or new 0 0) 0x4C) [
-        inr closed ↦ inr closed
+      | inr closed ↦ inr closed
       | inl opens ↦ elim (torn.gate 0 refl (inr (inr (inl opens)))) [
-            inl cleared ↦ absurd (omega (arith, opens, cleared))
-          | inr kept ↦ inl (untouched old new torn kept (omega_some old (sym kept ∙ opens))) ] ]
+        | inl cleared ↦ absurd (omega (arith, opens, cleared))
+        | inr kept ↦ inl (untouched old new torn kept (omega_some old (sym kept ∙ opens)))
+      ]
+    ]
 
 -- the images of opening a label
 pub opening_torn : (label : Label) (old new blocks rest : List ℕ) → IsLabel label → IsClosed old
@@ -89,9 +96,10 @@ opening_torn label old new blocks rest allowed closed whole behind (inl torn) =
     inl (λ opens. closed.1 (sym (torn.before 0 (omega arith) closed.0) ∙ opens))
 opening_torn label old new blocks rest allowed closed whole behind (inr torn) =
     elim (cases_eq (get_or new 0 0) 0x4C) [
-        inr shut ↦ inl shut
+      | inr shut ↦ inl shut
       | inl opens ↦ inr (
-            let P : List ℕ → Type 0 = λ bytes. Committed bytes (without_files label) in
-            subst P (sym (letter_whole 0 0x4C rest old new torn opens
-                ∙ opens_labelled label blocks rest old (length-label_text label allowed) whole behind))
-            (labelled_empty label old allowed)) ]
+          let P : List ℕ → Type 0 = λ bytes. Committed bytes (without_files label) in
+          subst P (sym (letter_whole 0 0x4C rest old new torn opens
+          ∙ opens_labelled label blocks rest old (length-label_text label allowed) whole behind))
+          (labelled_empty label old allowed))
+    ]

@@ -16,9 +16,11 @@ opened_drop (kind ∷ rest) some = refl
 pub sealed_some : (volid mark : ℕ) (blocks : List (List ChunkText)) (region : List ℕ)
     → IsSealed volid mark blocks region → 0 < length region
 sealed_some volid mark blocks region sealed =
-    rw sealed.text (omega (arith,
-        length-append (closed (mark_text volid mark (length blocks)) ++ blocks_text volid (mark + 1) blocks) closed_block,
-        length-closed_block))
+    rw sealed.text (omega (
+      arith,
+      length-append (closed (mark_text volid mark (length blocks)) ++ blocks_text volid (mark + 1) blocks) closed_block,
+      length-closed_block,
+    ))
 
 -- an open mark in front of the rest of a region
 pub opened_mark : (volid mark count : ℕ) (blocks rest : List ℕ)

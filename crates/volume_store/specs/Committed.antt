@@ -42,8 +42,8 @@ EndsAt bytes volid mark (Closed place) =
     (place ≡ mark) × (4096 * mark < length bytes) × (kind_at bytes mark ≢ 0x46)
 EndsAt bytes volid mark (Stop place) = (place ≡ mark)
     × ((length bytes ≤ 4096 * mark)
-        ⊎ ((kind_at bytes mark ≡ 0x46)
-            × ((count : ℕ) → ValidBlock (block_at bytes mark) volid mark (kinds.Mark count) → ⊥)))
+    ⊎ ((kind_at bytes mark ≡ 0x46)
+    × ((count : ℕ) → ValidBlock (block_at bytes mark) volid mark (kinds.Mark count) → ⊥)))
 
 -- The files from this mark place on, and their end. Each has a valid open mark with the count of its data
 -- places, and the next mark place is behind the last of these.

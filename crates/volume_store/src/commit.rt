@@ -26,7 +26,12 @@ const MARK_GATE: u8 = b'F';
 impl Volume {
     /// Makes the region the volume's next file; `count` is the number of its data blocks. After `Failed`
     /// the volume is to be mounted again.
-    pub fn commit<D: Store>(&mut self, store: &mut D, region: &[u8], count: u32) -> Result<(), Failed>
+    pub fn commit<D: Store>(
+        &mut self,
+        store: &mut D,
+        region: &[u8],
+        count: u32,
+    ) -> Result<(), Failed>
         requires cart { IsCart self.old.cart.0 }
         requires sealed { (blocks : List (List ChunkText)) × (length blocks ≡ count)
             × IsSealed self.old.label.volid.0 self.old.mark blocks region.now }
@@ -37,7 +42,7 @@ impl Volume {
             (Others (file_of self.old.cart.0) (D.view store.old) (D.view store.new)) }
         ensures written { Told (D.view store.old).tells (OnOk result
             ((D.view store.new).reads (file_of self.old.cart.0)
-                ≡ overlaid (4096 * self.old.mark) (opened region.now) ((D.view store.old).reads (file_of self.old.cart.0)))) }
+            ≡ overlaid (4096 * self.old.mark) (opened region.now) ((D.view store.old).reads (file_of self.old.cart.0)))) }
         ensures settled { Told (D.view store.old).tells
             (OnOk result (Settled (D.view store.new) (file_of self.old.cart.0))) }
         // The file is added to those that end at the volume's mark place.
@@ -45,14 +50,14 @@ impl Volume {
             → IsSealed self.old.label.volid.0 self.old.mark blocks region.now
             → Committed ((D.view store.old).reads (file_of self.old.cart.0)) (Labelled self.old.label files (Closed self.old.mark))
             → OnOk result (Committed ((D.view store.new).reads (file_of self.old.cart.0))
-                (with_file self.old.label files self.old.mark blocks))) }
+            (with_file self.old.label files self.old.mark blocks))) }
         // At every moment of the call a crash leaves the old files, or these and the new one.
         ensures moments { Told (D.view store.old).tells ((files : List CommittedFile) (blocks : List (List ChunkText))
             → IsSealed self.old.label.volid.0 self.old.mark blocks region.now
             → Committed ((D.view store.old).reads (file_of self.old.cart.0)) (Labelled self.old.label files (Closed self.old.mark))
             → Settled (D.view store.old) (file_of self.old.cart.0)
             → Leaves (D.view store.old) (D.view store.new) (OnFile (file_of self.old.cart.0)
-                (IsWholeOrAbsent self.old.label files self.old.mark blocks) (D.view store.old))) }
+            (IsWholeOrAbsent self.old.label files self.old.mark blocks) (D.view store.old))) }
         ensures mark { OnOk result (self.new ≡ record self.old { mark = self.old.mark + count + 1 }) }
     {
         let file = self.cart.0 + 1;

@@ -58,7 +58,7 @@ pub fn write_label<D: Store>(store: &mut D, label: &Label) -> Result<(), Failed>
         (Others (file_of label.now.cart.0) (D.view store.old) (D.view store.new)) }
     ensures written { Told (D.view store.old).tells (OnOk result
         ((D.view store.new).reads (file_of label.now.cart.0)
-            ≡ labelled label.now ((D.view store.old).reads (file_of label.now.cart.0)))) }
+        ≡ labelled label.now ((D.view store.old).reads (file_of label.now.cart.0)))) }
     ensures empty { Told (D.view store.old).tells (OnOk result
         (Committed ((D.view store.new).reads (file_of label.now.cart.0)) (without_files label.now))) }
     ensures settled { Told (D.view store.old).tells
@@ -67,7 +67,7 @@ pub fn write_label<D: Store>(store: &mut D, label: &Label) -> Result<(), Failed>
     // new label and no file.
     ensures moments { Told (D.view store.old).tells (Settled (D.view store.old) (file_of label.now.cart.0)
         → Leaves (D.view store.old) (D.view store.new) (OnFile (file_of label.now.cart.0)
-            (IsBeingLabelled label.now ((D.view store.old).reads (file_of label.now.cart.0))) (D.view store.old))) }
+        (IsBeingLabelled label.now ((D.view store.old).reads (file_of label.now.cart.0))) (D.view store.old))) }
 {
     let file = label.cart.0 + 1;
     close_label(store, file)?;
@@ -84,7 +84,7 @@ fn close_label<D: Store>(store: &mut D, file: u32) -> Result<(), Failed>
     ensures settled { Told (D.view store.old).tells (OnOk result (Settled (D.view store.new) file)) }
     ensures moments { Told (D.view store.old).tells (Settled (D.view store.old) file
         → Leaves (D.view store.old) (D.view store.new)
-            (OnFile file (Torn 0 (0 ∷ []) ((D.view store.old).reads file)) (D.view store.old))) }
+        (OnFile file (Torn 0 (0 ∷ []) ((D.view store.old).reads file)) (D.view store.old))) }
 {
     write_synced(store, file, 0, &[0])
 }
@@ -101,7 +101,7 @@ fn open_label<D: Store>(store: &mut D, file: u32, label: &Label) -> Result<(), F
     ensures moments { Told (D.view store.old).tells (Settled (D.view store.old) file
         → IsClosed ((D.view store.old).reads file)
         → Leaves (D.view store.old) (D.view store.new)
-            (OnFile file (IsOpening label.now) (D.view store.old))) }
+        (OnFile file (IsOpening label.now) (D.view store.old))) }
 {
     let mut blocks = [0; 2 * BLOCK_SIZE];
     fill_label_blocks(label, &mut blocks);

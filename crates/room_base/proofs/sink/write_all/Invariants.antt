@@ -9,7 +9,7 @@ invariant-loop-done g l =
     × ((g.W.Sink.view l.initial.sink).faults ≤ (g.W.Sink.view l.sink).faults)
     × ((g.W.Sink.view l.sink).tells ≡ (g.W.Sink.view l.initial.sink).tells)
     × Told (g.W.Sink.view l.initial.sink).tells
-        ((g.W.Sink.view l.sink).written ≡ (g.W.Sink.view l.initial.sink).written ++ take l.done l.bytes)
+    ((g.W.Sink.view l.sink).written ≡ (g.W.Sink.view l.initial.sink).written ++ take l.done l.bytes)
 
 abbrev pub decreases-loop-done : goal.decreases-loop-done
 decreases-loop-done g l = length l.bytes - l.done

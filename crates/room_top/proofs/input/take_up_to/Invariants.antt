@@ -10,7 +10,7 @@ invariant-loop-taken g l =
     × ((g.S.Source.view l.initial.input).faults ≤ (g.S.Source.view l.input).faults)
     × ((g.S.Source.view l.input).tells ≡ (g.S.Source.view l.initial.input).tells)
     × Told (g.S.Source.view l.initial.input).tells
-        (Fills (g.S.Source.view l.initial.input).left (g.S.Source.view l.input).left l.buffer l.taken)
+    (Fills (g.S.Source.view l.initial.input).left (g.S.Source.view l.input).left l.buffer l.taken)
 
 abbrev pub decreases-loop-taken : goal.decreases-loop-taken
 decreases-loop-taken g l = length l.buffer - l.taken

@@ -11,7 +11,7 @@ returns c =
     let chunk = raw_chunk c.args.offset c.args.piece.now in
     c.in_ok-extend_from_slice.ensures.items
     ∙ ap (λ block. c.args.region.now.items ++ block)
-        (c.seal_data.ensures.text
-        ∙ ap (λ (payload : List ℕ). block_text 0x44 c.args.volid.0 c.args.number payload)
-            (written 56 (24 + length c.args.piece.now) (replicate 4096 0) c.write_chunk.new.payload (chunk_text chunk) _ (lit≤ tt) (length-append (chunk_head 1 1 c.args.offset (length c.args.piece.now)) c.args.piece.now) c.write_chunk.ensures
-            ∙ sym (append-nil (chunk_text chunk))))
+    (c.seal_data.ensures.text
+    ∙ ap (λ (payload : List ℕ). block_text 0x44 c.args.volid.0 c.args.number payload)
+    (written 56 (24 + length c.args.piece.now) (replicate 4096 0) c.write_chunk.new.payload (chunk_text chunk) _ (lit≤ tt) (length-append (chunk_head 1 1 c.args.offset (length c.args.piece.now)) c.args.piece.now) c.write_chunk.ensures
+    ∙ sym (append-nil (chunk_text chunk))))

@@ -11,8 +11,8 @@ pub returns-clause-written : goal.returns-clause-written
 returns-clause-written g c = λ told.
     let old : List ℕ = (g.D.Store.view c.args.store.now).reads c.args.file in
     let opens : overlaid 0 (0x4C ∷ c.split_at.result.1.now) old ≡ labelled c.args.label.now old =
-        opens_labelled c.args.label.now _ c.split_at.result.1.now old
-            (length-label_text c.args.label.now c.requires) c.fill_label_blocks.ensures c.split_at.ensures.back in
+    opens_labelled c.args.label.now _ c.split_at.result.1.now old
+    (length-label_text c.args.label.now c.requires) c.fill_label_blocks.ensures c.split_at.ensures.back in
     let P : List ℕ → Type 0 = λ bytes. OnOk c.write_gated.result ((g.D.Store.view c.write_gated.new.store).reads c.args.file ≡ bytes) in
     subst P opens (c.write_gated.ensures.written told)
 
@@ -23,5 +23,5 @@ returns-clause-moments g c = λ told settled closed.
     let label = c.args.label.now in
     let rest = c.split_at.result.1.now in
     on_file_weaker file (GatedTorn 0 0x4C rest (old.reads file)) (IsOpening label) old (g.D.Store.view c.write_gated.new.store)
-        (c.write_gated.ensures.moments told settled)
-        (λ bytes torn. opening_torn label (old.reads file) bytes _ rest c.requires closed c.fill_label_blocks.ensures c.split_at.ensures.back torn)
+    (c.write_gated.ensures.moments told settled)
+    (λ bytes torn. opening_torn label (old.reads file) bytes _ rest c.requires closed c.fill_label_blocks.ensures c.split_at.ensures.back torn)

@@ -13,21 +13,21 @@ returns-in_err-write_gated-clause-moments g c = λ told files blocks sealed held
     let old = g.D.Store.view c.args.store.now in
     let rest = c.split_at.result.1.now in
     let gate : opened c.args.region.now ≡ 0x46 ∷ rest =
-        opened_drop _ (sealed_some _ _ _ _ sealed) ∙ ap (λ (bytes : List ℕ). 0x46 ∷ bytes) (sym c.split_at.ensures.back) in
+    opened_drop _ (sealed_some _ _ _ _ sealed) ∙ ap (λ (bytes : List ℕ). 0x46 ∷ bytes) (sym c.split_at.ensures.back) in
     on_file_weaker file (GatedTorn (4096 * volume.mark) 0x46 rest (old.reads file))
-        (IsWholeOrAbsent volume.label files volume.mark blocks) old (g.D.Store.view c.write_gated.new.store)
-        (c.in_err-write_gated.ensures.moments told settled)
-        (λ bytes torn. committed_torn (old.reads file) bytes c.args.region.now rest volume.label files volume.mark blocks held sealed gate torn)
+    (IsWholeOrAbsent volume.label files volume.mark blocks) old (g.D.Store.view c.write_gated.new.store)
+    (c.in_err-write_gated.ensures.moments told settled)
+    (λ bytes torn. committed_torn (old.reads file) bytes c.args.region.now rest volume.label files volume.mark blocks held sealed gate torn)
 
 pub returns-clause-added : goal.returns-clause-added
 returns-clause-added g c = λ told files blocks sealed held.
     let volume = c.args.self.now in
     let old = g.D.Store.view c.args.store.now in
     let gate : opened c.args.region.now ≡ 0x46 ∷ c.split_at.result.1.now =
-        opened_drop _ (sealed_some _ _ _ _ sealed) ∙ ap (λ (bytes : List ℕ). 0x46 ∷ bytes) (sym c.split_at.ensures.back) in
+    opened_drop _ (sealed_some _ _ _ _ sealed) ∙ ap (λ (bytes : List ℕ). 0x46 ∷ bytes) (sym c.split_at.ensures.back) in
     committed_more (old.reads (file_of volume.cart.0)) _ c.args.region.now volume.label files volume.mark blocks held sealed
-        (c.in_ok-write_gated.ensures.written told
-        ∙ ap (λ bytes. overlaid (4096 * volume.mark) bytes (old.reads (file_of volume.cart.0))) (sym gate))
+    (c.in_ok-write_gated.ensures.written told
+    ∙ ap (λ bytes. overlaid (4096 * volume.mark) bytes (old.reads (file_of volume.cart.0))) (sym gate))
 
 pub returns-clause-moments : goal.returns-clause-moments
 returns-clause-moments g c = λ told files blocks sealed held settled.
@@ -36,8 +36,8 @@ returns-clause-moments g c = λ told files blocks sealed held settled.
     let old = g.D.Store.view c.args.store.now in
     let rest = c.split_at.result.1.now in
     let gate : opened c.args.region.now ≡ 0x46 ∷ rest =
-        opened_drop _ (sealed_some _ _ _ _ sealed) ∙ ap (λ (bytes : List ℕ). 0x46 ∷ bytes) (sym c.split_at.ensures.back) in
+    opened_drop _ (sealed_some _ _ _ _ sealed) ∙ ap (λ (bytes : List ℕ). 0x46 ∷ bytes) (sym c.split_at.ensures.back) in
     on_file_weaker file (GatedTorn (4096 * volume.mark) 0x46 rest (old.reads file))
-        (IsWholeOrAbsent volume.label files volume.mark blocks) old (g.D.Store.view c.write_gated.new.store)
-        (c.in_ok-write_gated.ensures.moments told settled)
-        (λ bytes torn. committed_torn (old.reads file) bytes c.args.region.now rest volume.label files volume.mark blocks held sealed gate torn)
+    (IsWholeOrAbsent volume.label files volume.mark blocks) old (g.D.Store.view c.write_gated.new.store)
+    (c.in_ok-write_gated.ensures.moments told settled)
+    (λ bytes torn. committed_torn (old.reads file) bytes c.args.region.now rest volume.label files volume.mark blocks held sealed gate torn)
