@@ -76,25 +76,25 @@ joined_more blocks offset done piece place joined =
     (JoinFrom-push 1 0 (all_chunks blocks) done piece joined)
 
 -- So far these blocks are behind the start, and hold the bytes that aren't left. Each block but the last is full.
-pub record IsFilled (start region : List ℕ) (volid number : ℕ) (bytes rest : List ℕ) : Type 0 where
+pub record IsFilled (start region : List ℕ) (volid mark number : ℕ) (bytes rest : List ℕ) : Type 0 where
   pub blocks : List (List ChunkText)
   pub done : List ℕ
   pub split : bytes ≡ done ++ rest
-  pub counted : number ≡ 2 + length blocks
+  pub counted : number ≡ mark + 1 + length blocks
   pub allowed : AreBlocks blocks
-  pub text : region ≡ start ++ blocks_text volid 2 blocks
+  pub text : region ≡ start ++ blocks_text volid (mark + 1) blocks
   pub joined : JoinTo 1 blocks done
   pub most : length done ≤ 4016 * length blocks
   pub full : 0 < length rest → length done ≡ 4016 * length blocks
   pub least : 4016 * length blocks < length done + 4016
 
 -- one more data block
-pub fill_more : (start region new : List ℕ) (volid number offset count : ℕ) (bytes rest piece after : List ℕ)
-    → IsFilled start region volid number bytes rest → length bytes ≤ 257024 → 0 < length rest → count ≡ min (length rest) 4016
+pub fill_more : (start region new : List ℕ) (volid mark number offset count : ℕ) (bytes rest piece after : List ℕ)
+    → IsFilled start region volid mark number bytes rest → length bytes ≤ 257024 → 0 < length rest → count ≡ min (length rest) 4016
     → piece ≡ take count rest → after ≡ drop count rest → offset ≡ length bytes - length rest
     → new ≡ region ++ data_text volid number (raw_chunk offset piece ∷ [])
-    → IsFilled start new volid (number + 1) bytes after
-fill_more start region new volid number offset count bytes rest piece after filled small some size front back place written =
+    → IsFilled start new volid mark (number + 1) bytes after
+fill_more start region new volid mark number offset count bytes rest piece after filled small some size front back place written =
     let blocks = filled.blocks in
     let chunk = raw_chunk offset piece in
     let more = blocks ++ (chunk ∷ []) ∷ [] in
@@ -104,7 +104,7 @@ fill_more start region new volid number offset count bytes rest piece after fill
     let blocks_long : length more ≡ length blocks + 1 = length-append blocks ((chunk ∷ []) ∷ []) ∙ refl in
     let done_long : length (filled.done ++ piece) ≡ length filled.done + length piece = length-append filled.done piece in
     let cut : rest ≡ piece ++ after = sym (ap (λ p. p ++ after) front ∙ ap (λ a. take count rest ++ a) back ∙ take-append-drop count rest) in
-    let numbered : number ≡ 2 + length blocks = filled.counted in
+    let numbered : number ≡ mark + 1 + length blocks = filled.counted in
     record {
       blocks = more;
       done = filled.done ++ piece;
@@ -113,9 +113,9 @@ fill_more start region new volid number offset count bytes rest piece after fill
       allowed = AreBlocks-push blocks (chunk ∷ []) filled.allowed
           (one_chunk offset piece (omega (arith, piece_long, size)) (omega (arith, piece_long, size)) (omega (arith, piece_long, size, place, whole)));
       text = written ∙ ap (λ r. r ++ data_text volid number (chunk ∷ [])) filled.text
-          ∙ append_assoc start (blocks_text volid 2 blocks) (data_text volid number (chunk ∷ []))
-          ∙ ap (λ n. start ++ (blocks_text volid 2 blocks ++ data_text volid n (chunk ∷ []))) numbered
-          ∙ ap (λ t. start ++ t) (sym (blocks_text-push volid 2 blocks (chunk ∷ [])));
+          ∙ append_assoc start (blocks_text volid (mark + 1) blocks) (data_text volid number (chunk ∷ []))
+          ∙ ap (λ n. start ++ (blocks_text volid (mark + 1) blocks ++ data_text volid n (chunk ∷ []))) numbered
+          ∙ ap (λ t. start ++ t) (sym (blocks_text-push volid (mark + 1) blocks (chunk ∷ [])));
       joined = joined_more blocks offset filled.done piece (omega (arith, place, whole)) filled.joined;
       most = omega (arith, filled.full some, blocks_long, done_long, piece_long, size);
       full = λ left. omega (arith, filled.full some, blocks_long, done_long, piece_long, after_long, size, left);
@@ -123,11 +123,11 @@ fill_more start region new volid number offset count bytes rest piece after fill
     }
 
 -- a region whose blocks hold all bytes is sealed
-pub filled_sealed : (mark region new : List ℕ) (volid number count : ℕ) (bytes : List ℕ)
-    → IsFilled mark region volid number bytes [] → mark ≡ closed (mark_text volid 1 count) → count ≡ div_ceil (length bytes) 4016
-    → 1 ≤ volid → volid < 2 ^ 64 → 1 ≤ length bytes → length bytes ≤ 257024 → new ≡ region ++ closed_block
-    → (blocks : List (List ChunkText)) × (length blocks ≡ count) × IsSealed volid 1 blocks new × JoinTo 1 blocks bytes
-filled_sealed mark region new volid number count bytes filled opened size some fits from to is =
+pub filled_sealed : (start region new : List ℕ) (volid mark number count : ℕ) (bytes : List ℕ)
+    → IsFilled start region volid mark number bytes [] → start ≡ closed (mark_text volid mark count) → count ≡ div_ceil (length bytes) 4016
+    → 1 ≤ volid → volid < 2 ^ 64 → 1 ≤ mark → mark < 2 ^ 32 → 1 ≤ length bytes → length bytes ≤ 257024 → new ≡ region ++ closed_block
+    → (blocks : List (List ChunkText)) × (length blocks ≡ count) × IsSealed volid mark blocks new × JoinTo 1 blocks bytes
+filled_sealed start region new volid mark number count bytes filled opened size some fits placed low from to is =
     let whole : bytes ≡ filled.done = filled.split ∙ append-nil filled.done in
     let long : length bytes ≡ length filled.done = ap length whole in
     let counted : length filled.blocks ≡ count = omega (arith, size, filled.most, filled.least, long, from) in (
@@ -136,10 +136,10 @@ filled_sealed mark region new volid number count bytes filled opened size some f
       record {
         of_volume = (some, fits);
         counted = (omega (arith, filled.most, filled.least, long), omega (arith, filled.most, filled.least, long));
-        placed = (omega arith, omega arith);
+        placed = (placed, low);
         allowed = filled.allowed;
-        text = is ∙ ap (λ r. r ++ closed_block) (filled.text ∙ ap (λ m. m ++ blocks_text volid 2 filled.blocks)
-            (opened ∙ ap (λ n. closed (mark_text volid 1 n)) (sym counted)));
+        text = is ∙ ap (λ r. r ++ closed_block) (filled.text ∙ ap (λ m. m ++ blocks_text volid (mark + 1) filled.blocks)
+            (opened ∙ ap (λ n. closed (mark_text volid mark n)) (sym counted)));
       },
       (let P : List ℕ → Type 0 = JoinTo 1 filled.blocks in subst P (sym whole) filled.joined),
     )

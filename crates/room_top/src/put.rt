@@ -6,7 +6,7 @@ ghost use Rattle.room_top.specs.Put.{HasSize, IsPut};
 ghost use Rattle.room_top.specs.Stages.{IsOccupiedStatus, StoreCause, JudgesLabel, Stores};
 
 use crate::Status;
-use crate::raw::{fill_region, raw_label_of};
+use crate::raw::{FIRST_MARK, fill_region, raw_label_of};
 use crate::store::store_first_file;
 use itoa::Buffer;
 use room_base::{Cart, Clock, MAX_MOMENT, Moment, Name, Refusal};
@@ -47,7 +47,7 @@ pub fn put_file<D: Store, C: Clock>(
         return Err(Status::ClockFault);
     };
     let label = raw_label_of(cart, Moment(now.0.min(MAX_MOMENT.0)));
-    let Ok((region, count)) = fill_region(alloc, label.volid, bytes) else {
+    let Ok((region, count)) = fill_region(alloc, label.volid, FIRST_MARK, bytes) else {
         return Err(Status::Memory);
     };
     match store_first_file(disk, &label, &region, count) {

@@ -47,18 +47,19 @@ pub fn raw_label_of(cart: Cart, made: Moment) -> Label
     }
 }
 
-/// The region that makes the bytes the first file of a volume, and the number of its data blocks. Each
-/// data block has one chunk of save set 1, copy 1.
-pub fn fill_region(alloc: Global, volid: Volid, bytes: &[u8]) -> Result<(Vec<u8>, u32), Memory>
+/// The region that makes the bytes a file at a mark place of a volume, and the number of its data blocks.
+/// Each data block has one chunk of save set 1, copy 1.
+pub fn fill_region(alloc: Global, volid: Volid, mark: u64, bytes: &[u8]) -> Result<(Vec<u8>, u32), Memory>
     requires volid { IsVolid volid.0 }
+    requires mark { (1 ≤ mark) × (mark < 2 ^ 32) }
     requires size { (1 ≤ length bytes.now) × (length bytes.now ≤ 257024) }
     ensures { IfOk result (λ region. (blocks : List (List ChunkText)) × (length blocks ≡ region.1)
-        × IsSealed volid.0 1 blocks region.0.items × JoinTo 1 blocks bytes.now) }
+        × IsSealed volid.0 mark blocks region.0.items × JoinTo 1 blocks bytes.now) }
 {
     let count = bytes.len().div_ceil(CHUNK_SIZE);
     let mut region = Vec::with_capacity(alloc, (count + 2) * BLOCK_SIZE)?;
-    append_mark(&mut region, volid, count as u32)?;
-    let mut number = FIRST_MARK + 1;
+    append_mark(&mut region, volid, mark, count as u32)?;
+    let mut number = mark + 1;
     let mut rest = bytes;
     while !rest.is_empty() {
         let (piece, after) = rest.split_at(rest.len().min(CHUNK_SIZE));
@@ -72,13 +73,19 @@ pub fn fill_region(alloc: Global, volid: Volid, bytes: &[u8]) -> Result<(Vec<u8>
 }
 
 // A mark that is still closed.
-fn append_mark(region: &mut Vec<u8>, volid: Volid, count: u32) -> Result<(), Memory>
+fn append_mark(
+    region: &mut Vec<u8>,
+    volid: Volid,
+    mark: u64,
+    count: u32,
+) -> Result<(), Memory>
     requires volid { 1 ≤ volid.0 }
+    requires mark { 1 ≤ mark }
     requires count { IsCount count }
-    ensures { OnOk result (region.new.items ≡ region.old.items ++ closed (mark_text volid.0 1 count)) }
+    ensures { OnOk result (region.new.items ≡ region.old.items ++ closed (mark_text volid.0 mark count)) }
 {
     let mut block = [0; BLOCK_SIZE];
-    encode_mark(volid, FIRST_MARK, count, &mut block);
+    encode_mark(volid, mark, count, &mut block);
     block[0] = 0;
     Ok(region.extend_from_slice(&block)?)
 }
