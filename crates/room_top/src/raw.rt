@@ -49,7 +49,12 @@ pub fn raw_label_of(cart: Cart, made: Moment) -> Label
 
 /// The region that makes the bytes a file at a mark place of a volume, and the number of its data blocks.
 /// Each data block has one chunk of save set 1, copy 1.
-pub fn fill_region(alloc: Global, volid: Volid, mark: u64, bytes: &[u8]) -> Result<(Vec<u8>, u32), Memory>
+pub fn fill_region(
+    alloc: Global,
+    volid: Volid,
+    mark: u64,
+    bytes: &[u8],
+) -> Result<(Vec<u8>, u32), Memory>
     requires volid { IsVolid volid.0 }
     requires mark { (1 ≤ mark) × (mark < 2 ^ 32) }
     requires size { (1 ≤ length bytes.now) × (length bytes.now ≤ 257024) }
@@ -73,12 +78,7 @@ pub fn fill_region(alloc: Global, volid: Volid, mark: u64, bytes: &[u8]) -> Resu
 }
 
 // A mark that is still closed.
-fn append_mark(
-    region: &mut Vec<u8>,
-    volid: Volid,
-    mark: u64,
-    count: u32,
-) -> Result<(), Memory>
+fn append_mark(region: &mut Vec<u8>, volid: Volid, mark: u64, count: u32) -> Result<(), Memory>
     requires volid { 1 ≤ volid.0 }
     requires mark { 1 ≤ mark }
     requires count { IsCount count }
