@@ -15,7 +15,7 @@ pub fn append_each<D: Store>(store: &mut D, file: u32, bytes: &[u8]) -> Result<(
     ensures moments { Told (D.view store.old).tells ((D.view store.old).reads file ≡ []
         → Settled (D.view store.old) file
         → Leaves (D.view store.old) (D.view store.new)
-            (OnFile file (IsFrontAndOne bytes.now) (D.view store.old))) }
+        (OnFile file (IsFrontAndOne bytes.now) (D.view store.old))) }
 {
     for (place, byte) in bytes.iter().enumerate() {
         write_synced(store, file, place as u64, &[*byte])?;

@@ -19,7 +19,7 @@ pub fn write_in_order<D: Store>(
     ensures moments { Told (D.view store.old).tells (Settled (D.view store.old) first
         → Settled (D.view store.old) second
         → Leaves (D.view store.old) (D.view store.new)
-            (FirstBeforeSecond first second bytes.now (D.view store.old))) }
+        (FirstBeforeSecond first second bytes.now (D.view store.old))) }
 {
     write_synced(store, first, 0, bytes)?;
     write_synced(store, second, 0, bytes)
