@@ -1,0 +1,16 @@
+//! The stream of a save set: a head, entries with strictly ascending paths, and an end with their
+//! count. It is written in one spelling, and read in any pieces.
+//! docs/formats.md has its bytes.
+#![tactic(auto)]
+
+mod encode;
+mod entry;
+mod fault;
+mod head;
+mod level;
+
+pub use encode::encode_head;
+pub use entry::{EntryKind, IndexEntry, MAX_ENTRIES, MAX_SIZE};
+pub use fault::StreamFault;
+pub use head::SetHead;
+pub use level::Level;
