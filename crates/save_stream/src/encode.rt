@@ -11,7 +11,7 @@ use std::alloc::{AllocError, Global};
 pub(crate) const HEAD_MARK: u8 = b'H';
 
 /// The bytes of a head before its first text, and the length bytes of its four texts.
-const HEAD_SIZE: usize = 46;
+pub(crate) const HEAD_SIZE: usize = 46;
 
 /// Writes a head in its one spelling.
 pub fn encode_head(alloc: Global, head: &SetHead) -> Result<Vec<u8>, Memory>

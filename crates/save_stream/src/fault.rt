@@ -10,3 +10,36 @@ pub enum StreamFault {
     TooMany { limit: u64 },
     Memory,
 }
+
+impl From<Memory> for StreamFault {
+    ghost use Rattle.std.specs.Prelude.{◌≡◌};
+    ghost use Rattle.save_stream.specs.declared.fault.StreamFault.TheVariants.{Memory};
+
+    ghost from_gives = { λ _ fault. fault ≡ Memory };
+
+    fn from(_: Memory) -> StreamFault {
+        StreamFault::Memory
+    }
+}
+
+impl From<AllocError> for StreamFault {
+    ghost use Rattle.std.specs.Prelude.{◌≡◌};
+    ghost use Rattle.save_stream.specs.declared.fault.StreamFault.TheVariants.{Memory};
+
+    ghost from_gives = { λ _ fault. fault ≡ Memory };
+
+    fn from(_: AllocError) -> StreamFault {
+        StreamFault::Memory
+    }
+}
+
+impl<T: Drop> From<AllocFailed<T>> for StreamFault {
+    ghost use Rattle.std.specs.Prelude.{◌≡◌};
+    ghost use Rattle.save_stream.specs.declared.fault.StreamFault.TheVariants.{Memory};
+
+    ghost from_gives = { λ _ fault. fault ≡ Memory };
+
+    fn from(_: AllocFailed<T>) -> StreamFault {
+        StreamFault::Memory
+    }
+}

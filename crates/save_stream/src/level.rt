@@ -2,8 +2,8 @@ ghost use Rattle.std.specs.Prelude.{◌≡◌, ◌≤◌, SomeIff};
 
 use std::marker::Model;
 
-/// The rank of the level without a base, and of the greatest one.
-const MAX_RANK: u8 = 10;
+/// The rank of the incremental level, the greatest one.
+pub(crate) const MAX_RANK: u8 = 10;
 
 /// The level of a save: rank 0 is full, 1 to 9 are the numbered ones, and 10 is incremental. Contracts
 /// see it as its rank.
@@ -31,7 +31,14 @@ impl Level {
         if rank > MAX_RANK {
             return None;
         }
-        Some(Level { rank })
+        Some(Level::ranked(rank))
+    }
+
+    pub(crate) fn ranked(rank: u8) -> Level
+        requires { rank ≤ 10 }
+        ensures { result ≡ rank }
+    {
+        Level { rank }
     }
 
     pub fn rank(&self) -> u8

@@ -5,12 +5,21 @@
 
 mod encode;
 mod entry;
+mod entry_reading;
 mod fault;
+mod field;
 mod head;
+mod head_reading;
 mod level;
+mod reader;
+mod state;
+mod stop;
 
 pub use encode::encode_head;
 pub use entry::{EntryKind, IndexEntry, MAX_ENTRIES, MAX_SIZE};
 pub use fault::StreamFault;
 pub use head::SetHead;
 pub use level::Level;
+pub use reader::StreamReader;
+
+use level::MAX_RANK;
