@@ -190,3 +190,32 @@ unfolding end_at
 end-again count rest fits =
     then-again _ _ _ _ _ (mark-again 0x45 (number_text count ++ rest))
     (allowed-again (λ n. eqb n count) _ _ count rest (number-again count rest fits) (eq-eqb count count refl))
+
+-- what an entry of a kind may have before its file's bytes
+abbrev pub FitsKind : EntryKind → ℕ → ℕ → Type 0
+FitsKind kinds.File mtime size = (mtime < 2 ^ 64) × (size ≤ max_size)
+FitsKind kinds.Folder mtime size = (mtime < 2 ^ 64) × (size ≡ 0)
+FitsKind kinds.Gone mtime size = (mtime ≡ 0) × (size ≡ 0)
+
+file_parts : (a b c d rest : List ℕ) → (((a ++ b) ++ c) ++ d) ++ rest ≡ a ++ (b ++ (c ++ (d ++ rest)))
+file_parts a b c d rest = simp append_assoc
+
+pub front-again : (count : ℕ) (last : List ℕ) (kind : EntryKind) (path : List ℕ) (mtime size : ℕ) (rest : List ℕ) → count < max_entries
+    → HasLength 1024 path → IsPathText path → IsBelow last path → FitsKind kind mtime size
+    → front_at count last (entry_front kind path mtime size ++ rest) ≡ Ok (record { kind = kind; path = path; mtime = mtime; size = size }, rest)
+unfolding front_at mark_of
+front-again count last kinds.File path mtime size rest room fits is below fields =
+    ap (front_at count last) (file_parts (0x46 ∷ []) (long_text path) (number_text mtime) (number_text size) rest)
+    ∙ then-again _ _ _ _ _ (kind-again count kinds.File _ room)
+    (then-again _ _ _ _ _ (path-again last path _ fits is below)
+    (then-again _ _ _ _ _ (number-again mtime (number_text size ++ rest) fields.0)
+    (then-again _ _ _ _ _ (allowed-again (λ n. nat_le n max_size) _ _ size rest (number-again size rest (omega (arith, fields.1))) (le-leb size max_size fields.1)) refl)))
+front-again count last kinds.Folder path mtime size rest room fits is below fields =
+    ap (front_at count last) (ap (λ (t : List ℕ). t ++ rest) (append_assoc (0x44 ∷ []) (long_text path) (number_text mtime)) ∙ ap (λ (t : List ℕ). 0x44 ∷ t) (append_assoc (long_text path) (number_text mtime) rest))
+    ∙ then-again _ _ _ _ _ (kind-again count kinds.Folder _ room)
+    (then-again _ _ _ _ _ (path-again last path _ fits is below)
+    (then-again _ _ _ _ _ (number-again mtime rest fields.0) (ap (λ (n : ℕ). Ok (record { kind = kinds.Folder; path = path; mtime = mtime; size = n }, rest)) (sym fields.1))))
+front-again count last kinds.Gone path mtime size rest room fits is below fields =
+    then-again _ _ _ _ _ (kind-again count kinds.Gone _ room)
+    (then-again _ _ _ _ _ (path-again last path rest fits is below)
+    (rw (fields.0, fields.1) refl))

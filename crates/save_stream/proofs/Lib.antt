@@ -2,4 +2,6 @@ pub mod Again
 pub mod Growing
 pub mod Lengths
 pub mod Names
+pub mod OneSpelling
 pub mod Taking
+pub mod Whole

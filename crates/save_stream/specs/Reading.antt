@@ -347,3 +347,16 @@ Stopped stops.Full read (Ok _) = ⊥
 Stopped stops.Full read (Err fault) = fault ≡ faults.TooMany max_entries
 Stopped stops.Memory read (Ok _) = ⊥
 Stopped stops.Memory read (Err fault) = fault ≡ faults.Memory
+
+-- behind a head and whole entries
+abbrev pub between : SetHead → ℕ → List IndexEntry → Reading
+between head read entries = record { read = read; left = 0; ended = false; head = Some head; entries = entries; pending = [] }
+
+-- behind a whole stream
+abbrev pub at_end : SetHead → ℕ → List IndexEntry → Reading
+at_end head read entries = record (between head read entries) { ended = true }
+
+-- the pieces of a stream, one after the other
+abbrev pub reads_all : Reading → List (List ℕ) → Result Reading StreamFault
+reads_all reading [] = Ok reading
+reads_all reading (piece ∷ pieces) = then_reads (reads reading piece) (λ next. reads_all next pieces)

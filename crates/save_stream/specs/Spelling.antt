@@ -112,9 +112,13 @@ end_text count = (0x45 ∷ []) ++ number_text count
 
 -- ---- the stream
 
+-- how entries and the end are spelled
+abbrev pub body_text : List Saved → List ℕ
+body_text entries = flat_map entry_text entries ++ end_text (length entries)
+
 -- how a head and entries are spelled
 abbrev pub stream_text : SetHead → List Saved → List ℕ
-stream_text head entries = head_text head ++ flat_map entry_text entries ++ end_text (length entries)
+stream_text head entries = head_text head ++ body_text entries
 
 -- a head and entries that are allowed
 pub record IsStream (head : SetHead) (entries : List Saved) : Type 0 where

@@ -10,6 +10,7 @@ mod fault;
 mod field;
 mod head;
 mod head_reading;
+mod laws;
 mod level;
 mod reader;
 mod state;
@@ -19,6 +20,7 @@ pub use encode::encode_head;
 pub use entry::{EntryKind, IndexEntry, MAX_ENTRIES, MAX_SIZE};
 pub use fault::StreamFault;
 pub use head::SetHead;
+pub use laws::{one_spelling, same_in_any_pieces, streams_are_read};
 pub use level::Level;
 pub use reader::StreamReader;
 
