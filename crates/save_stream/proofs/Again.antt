@@ -1,8 +1,6 @@
 -- What was written is read again.
-use Rattle.std.proofs.Common.{◌≡◌, ◌↔◌, ℕ, zero, suc, ◌+◌, ◌≤◌, ◌<◌, ◌^◌, Bool, true, false, cond, eqb, nat_lt, nat_le, List, [], ◌∷◌, ◌++◌, length, drop, take, get_or, Result, Ok, Err, refl, sym, ap, ◌∙◌, append_assoc, eq-eqb, arith}
-use Rattle.std.specs.Prelude.{◌&&◌, All, slice_index, slice_get, Some}
-use Rattle.std.specs.List.{list_all, AllPass}
-use Rattle.std.specs.Str.{IsUtf8, is_utf8}
+use Rattle.std.proofs.Common.{◌≡◌, ◌↔◌, ℕ, zero, suc, ◌≤◌, ◌<◌, ◌^◌, Bool, true, false, eqb, nat_lt, nat_le, List, [], ◌∷◌, ◌++◌, length, get_or, Ok, refl, sym, ap, ◌∙◌, append_assoc, eq-eqb, arith}
+use Rattle.std.specs.Prelude.{◌&&◌, slice_index, slice_get, Some}
 use Rattle.std.proofs.lemmas.Str.{is_utf8-from_IsUtf8}
 use Rattle.std.proofs.lemmas.Bool.{ne_eqb, lt-ltb, le-ltb, le-leb}
 use Rattle.std.proofs.lemmas.List.{length-append, take_at, drop_at}
@@ -16,11 +14,8 @@ use Rattle.save_stream.specs.declared.entry.EntryKind.TheVariants as kinds
 use Rattle.save_stream.specs.declared.head_reading.HeadNumbers.{HeadNumbers}
 use Rattle.std.specs.Ordering.{is_lt}
 use Rattle.save_stream.specs.declared.head.SetHead.{SetHead}
-use Rattle.save_stream.specs.declared.stop.Stop.{Stop}
-use Rattle.save_stream.specs.declared.stop.Stop.TheVariants as stops
-use Rattle.save_stream.specs.Spelling.{max_entries, max_size, IsNameTo, IsHead, IsBelow, number_text, short_number_text, short_text, long_text, head_numbers, head_text, entry_front, end_text, HasFields}
-use Rattle.save_stream.specs.Reading.{Part, ◌>>=◌, checked, byte_at, number_at, bytes_at, is_printable, is_name, text_at, mark_at, ssid_at, base_at, is_level, level_at, moment_at, numbers_at, names_at, head_at, kind_of, kind_among, kind_at, is_path, is_below, path_at, mtime_at, size_at, front_at, end_at, Front, HeadNames}
-use Rattle.save_stream.proofs.Lengths.{length-number_text}
+use Rattle.save_stream.specs.Spelling.{max_entries, max_size, IsHead, IsBelow, number_text, short_number_text, short_text, long_text, head_numbers, head_text, entry_front, end_text}
+use Rattle.save_stream.specs.Reading.{Part, ◌>>=◌, checked, number_at, bytes_at, is_printable, is_name, text_at, mark_at, ssid_at, base_at, is_level, level_at, moment_at, numbers_at, names_at, head_at, kind_at, is_path, is_below, path_at, front_at, end_at, HeadNames}
 
 -- ---- fields
 

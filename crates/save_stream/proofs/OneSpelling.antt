@@ -1,5 +1,5 @@
 -- A head and entries have one spelling, and no spelling begins another.
-use Rattle.std.proofs.Common.{◌≡◌, ℕ, zero, suc, ◌+◌, ◌≤◌, List, [], ◌∷◌, ◌++◌, length, take, drop, Option, Some, None, Result, Ok, Err, refl, sym, ap, subst, ◌∙◌, append_assoc, arith}
+use Rattle.std.proofs.Common.{◌≡◌, ℕ, ◌+◌, List, [], ◌∷◌, ◌++◌, length, take, drop, Option, Some, Result, Ok, Err, refl, sym, ap, ◌∙◌, append_assoc, arith}
 use Rattle.std.specs.List.{flat_map}
 use Rattle.std.proofs.lemmas.List.{append-nil, append_cancel_left, take_at, drop_at}
 use Rattle.save_stream.specs.declared.entry.EntryKind.{EntryKind}
@@ -68,9 +68,10 @@ abbrev saved : EntryKind → List ℕ → ℕ → List ℕ → Saved
 saved kind path mtime bytes = record { kind = kind; path = path; mtime = mtime; bytes = bytes }
 
 same-front : {A : Type 0} (one other more rest : List A) → length one ≡ length other → one ++ more ≡ other ++ rest → (one ≡ other) × (more ≡ rest)
-same-front one other more rest size is =
-    (sym (take_at one more (length one) refl) ∙ ap (take (length one)) is ∙ take_at other rest (length one) (sym size),
-    sym (drop_at one more (length one) refl) ∙ ap (drop (length one)) is ∙ drop_at other rest (length one) (sym size))
+same-front one other more rest size is = (
+  sym (take_at one more (length one) refl) ∙ ap (take (length one)) is ∙ take_at other rest (length one) (sym size),
+  sym (drop_at one more (length one) refl) ∙ ap (drop (length one)) is ∙ drop_at other rest (length one) (sym size),
+)
 
 -- behind an end nothing is read
 same-length : (head other : SetHead) (one two : ℕ) (entries others : List IndexEntry) (more rest : List ℕ)

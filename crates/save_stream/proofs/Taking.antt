@@ -58,7 +58,8 @@ head-same (Some head) = refl
 pub Keeps-then : (old mid new : Reading) → Keeps old mid → Keeps mid new → Keeps old new
 Keeps-then old mid new first second = record {
   head = head-kept old.head mid.head new.head first.head second.head;
-  entries = (first.entries.0 ++ second.entries.0, second.entries.1 ∙ ap (λ (es : List IndexEntry). es ++ second.entries.0) first.entries.1 ∙ append_assoc old.entries first.entries.0 second.entries.0) }
+  entries = (first.entries.0 ++ second.entries.0, second.entries.1 ∙ ap (λ (es : List IndexEntry). es ++ second.entries.0) first.entries.1 ∙ append_assoc old.entries first.entries.0 second.entries.0);
+}
 
 pub Keeps-same : (reading : Reading) → Keeps reading reading
 Keeps-same reading = record { head = head-same reading.head; entries = ([], sym (append-nil reading.entries)) }
@@ -77,4 +78,5 @@ pub Goes-on : (old now next : Reading) (piece rest : List ℕ) (count : ℕ) →
 Goes-on old now next piece rest count before step kept = record {
   same = before.same ∙ step.rest;
   kept = Keeps-then old now next before.kept kept;
-  room = omega (arith, before.room, step.read, step.within, length-drop count rest) }
+  room = omega (arith, before.room, step.read, step.within, length-drop count rest);
+}

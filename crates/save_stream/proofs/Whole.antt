@@ -1,18 +1,16 @@
 -- A stream that is spelled as the grammar says is read, with its fields.
-use Rattle.std.proofs.Common.{◌≡◌, ℕ, zero, suc, ◌+◌, ◌-◌, ◌≤◌, ◌<◌, ◌^◌, Bool, true, false, cond, nat_lt, List, [], ◌∷◌, ◌++◌, length, drop, Option, Some, None, Result, Ok, Err, refl, sym, ap, subst, ◌∙◌, append_assoc, arith}
+use Rattle.std.proofs.Common.{◌≡◌, ℕ, suc, ◌+◌, ◌-◌, ◌≤◌, ◌<◌, Bool, false, cond, nat_lt, List, [], ◌∷◌, ◌++◌, length, drop, Result, Ok, Err, refl, sym, ap, subst, ◌∙◌, append_assoc, arith}
 use Rattle.std.specs.List.{flat_map, AllByRecursion}
 use Rattle.std.proofs.lemmas.Bool.{le-ltb}
 use Rattle.std.proofs.lemmas.List.{length-append, append-nil, drop_at}
-use Rattle.room_base.specs.Text.{HasLength, IsPathText}
 use Rattle.save_stream.specs.declared.entry.EntryKind.{EntryKind}
 use Rattle.save_stream.specs.declared.entry.EntryKind.TheVariants as kinds
 use Rattle.save_stream.specs.declared.entry.IndexEntry.{IndexEntry}
 use Rattle.save_stream.specs.declared.fault.StreamFault.{StreamFault}
 use Rattle.save_stream.specs.declared.head.SetHead.{SetHead}
-use Rattle.save_stream.specs.declared.stop.Stop.{Stop}
 use Rattle.save_stream.specs.declared.stop.Stop.TheVariants as stops
-use Rattle.save_stream.specs.Spelling.{max_entries, IsHead, Saved, IsSaved, HasFields, Ascend, IsBelow, IsStream, head_text, entry_front, entry_text, end_text, body_text, stream_text, index_entry, index_from, place_of}
-use Rattle.save_stream.specs.Reading.{Part, Reading, Front, start, behind_head, read_alone, settled, settle, with_head, with_entry, with_end, between, at_end, entry_from, last_path, with_byte, passed, after_byte, then_reads, reads, head_at, front_at, end_at}
+use Rattle.save_stream.specs.Spelling.{max_entries, IsHead, Saved, IsSaved, HasFields, Ascend, IsBelow, IsStream, head_text, entry_front, entry_text, end_text, body_text, stream_text, index_entry, index_from}
+use Rattle.save_stream.specs.Reading.{Part, Reading, Front, start, behind_head, read_alone, settled, settle, with_head, with_entry, with_end, between, at_end, last_path, with_byte, passed, after_byte, then_reads, reads, head_at, front_at, end_at}
 use Rattle.save_stream.proofs.Again.{FitsKind, head-again, front-again, end-again}
 use Rattle.save_stream.proofs.Growing.{Extends, Grows, head-grows, front-grows, end-grows}
 use Rattle.save_stream.proofs.Taking.{reads-passed}

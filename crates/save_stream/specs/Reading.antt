@@ -1,13 +1,11 @@
 -- Reading from left to right: each field is judged when its last byte has come.
-use Rattle.std.specs.Prelude.{◌≡◌, ℕ, zero, suc, ◌+◌, ◌-◌, ◌<◌, ◌≤◌, Bool, true, false, ◌&&◌, not, ◌==◌, nat_lt, nat_le, List, [], ◌∷◌, ◌++◌, length, take, drop, slice_index, Option, Some, None, Result, Ok, Err, if◌then◌else◌}
+use Rattle.std.specs.Prelude.{◌≡◌, ℕ, ◌+◌, ◌-◌, ◌<◌, ◌≤◌, Bool, true, false, ◌&&◌, not, ◌==◌, nat_lt, nat_le, List, [], ◌∷◌, ◌++◌, length, take, drop, slice_index, Option, Some, None, Result, Ok, Err, if◌then◌else◌}
 use Rattle.std.specs.List.{list_all}
 use Rattle.std.specs.Ordering.{nat_cmp, is_lt}
 use Rattle.std.specs.Cmp.Lexicographic.{slice_cmp}
 use Rattle.std.specs.Str.{is_utf8}
 use Rattle.byteorder.specs.Endian.{big_number}
 use Rattle.room_base.specs.Numbers.{max_moment}
-use Rattle.room_base.specs.declared.numbers.Moment.{Moment}
-use Rattle.room_base.specs.declared.numbers.Ssid.{Ssid}
 use Rattle.save_stream.specs.declared.entry.EntryKind.{EntryKind}
 use Rattle.save_stream.specs.declared.entry.EntryKind.TheVariants as kinds
 use Rattle.save_stream.specs.declared.entry.IndexEntry.{IndexEntry}
@@ -109,13 +107,17 @@ numbers_at bytes = do
   saved ← moment_at 0 level.1
   browse ← moment_at 0 saved.1
   retain ← moment_at browse.0 browse.1
-  Ok (record {
-    ssid = record { 0 = ssid.0 };
-    base = record { 0 = base.0 };
-    rank = level.0;
-    saved = record { 0 = saved.0 };
-    browse = record { 0 = browse.0 };
-    retain = record { 0 = retain.0 } }, retain.1)
+  Ok (
+    record {
+      ssid = record { 0 = ssid.0 };
+      base = record { 0 = base.0 };
+      rank = level.0;
+      saved = record { 0 = saved.0 };
+      browse = record { 0 = browse.0 };
+      retain = record { 0 = retain.0 };
+    },
+    retain.1,
+  )
 
 -- client, set, group and pool
 pub record HeadNames : Type 0 where
@@ -144,7 +146,8 @@ head_from numbers names = record {
   client = names.client;
   set = names.set;
   group = names.group;
-  pool = names.pool }
+  pool = names.pool;
+}
 
 unfoldable pub head_at : List ℕ → Part SetHead
 head_at bytes = do

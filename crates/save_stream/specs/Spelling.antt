@@ -4,7 +4,6 @@ use Rattle.std.specs.List.{flat_map, AllByRecursion}
 use Rattle.std.specs.Ordering.{nat_cmp}
 use Rattle.std.specs.Cmp.Lexicographic.{slice_cmp}
 use Rattle.std.specs.declared.cmp.Ordering.TheVariants.{Less}
-use Rattle.std.specs.Str.{IsUtf8}
 use Rattle.byteorder.specs.Endian.{big_bytes}
 use Rattle.room_base.specs.Numbers.{max_moment}
 use Rattle.room_base.specs.Text.{HasLength, IsName, IsPathText}
@@ -141,7 +140,8 @@ index_entry at entry = record {
   path = entry.path;
   mtime = entry.mtime;
   size = length entry.bytes;
-  place = place_of entry.kind (at + length (entry_front entry.kind entry.path entry.mtime (length entry.bytes))) }
+  place = place_of entry.kind (at + length (entry_front entry.kind entry.path entry.mtime (length entry.bytes)));
+}
 
 -- the index of entries, of which the first begins here
 abbrev pub index_from : ℕ → List Saved → List IndexEntry

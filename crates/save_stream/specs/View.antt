@@ -12,7 +12,8 @@ reading_of state = record {
   ended = state.ended;
   head = state.head;
   entries = state.entries.items;
-  pending = state.pending.items }
+  pending = state.pending.items;
+}
 
 -- what has to be known of a reading, to go back to it
 pub record IsMark (mark : Mark) (reading : Reading) : Type 0 where

@@ -22,6 +22,8 @@ pub use fault::StreamFault;
 pub use head::SetHead;
 pub use laws::{one_spelling, same_in_any_pieces, streams_are_read};
 pub use level::Level;
+use level::MAX_RANK;
 pub use reader::StreamReader;
 
-use level::MAX_RANK;
+#[cfg(test)]
+mod tests;

@@ -1,5 +1,4 @@
-use Rattle.std.proofs.Common.{◌≡◌, ◌+◌, ◌≤◌, ◌^◌, ℕ, List, length}
-use Rattle.save_stream.specs.Reading.{Reading, Keeps, reads}
+use Rattle.std.proofs.Common.{length}
 use Rattle.save_stream.specs.View.{reading_of}
 use Rattle.save_stream.proofs.Taking.{Goes}
 use Rattle.save_stream.proofs.state.State.take.Given as goal

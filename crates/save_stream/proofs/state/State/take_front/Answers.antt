@@ -11,4 +11,5 @@ returns-then-self-gt0-clause-read c = record {
   some = omega arith;
   within = omega arith;
   read = refl;
-  rest = reads-passed c.min-count.result (reading_of c.args.self.now) c.args.bytes.now c.if-self.false (omega arith) (omega arith) }
+  rest = reads-passed c.min-count.result (reading_of c.args.self.now) c.args.bytes.now c.if-self.false (omega arith) (omega arith);
+}
