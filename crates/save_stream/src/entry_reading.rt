@@ -1,0 +1,147 @@
+//! Reads an entry up to the bytes of its file, and the end.
+
+ghost use Rattle.std.specs.Prelude.{◌≡◌, IfSome, is_some, ◌==◌, slice_index};
+ghost use Rattle.save_stream.specs.Reading.{Gives, kind_at, kind_of, is_path, is_below, path_at, mtime_at, size_at, front_at, end_at};
+ghost use Rattle.save_stream.specs.Texts.{front_from};
+
+use crate::field::{allow, byte_of, bytes_of, mark_of, u16_of, u64_of};
+use crate::stop::Stop;
+use crate::{EntryKind, MAX_ENTRIES, MAX_SIZE};
+use std::cmp::Ordering;
+
+/// The byte that begins an end.
+pub(crate) const END_MARK: u8 = b'E';
+
+/// The longest path, in bytes.
+const MAX_PATH: u16 = 1024;
+
+/// The fields of an entry before the bytes of its file.
+#[derive(Clone, Copy)]
+pub(crate) struct EntryFront<'a> {
+    pub(crate) kind: EntryKind,
+    pub(crate) path: &'a str,
+    pub(crate) mtime: u64,
+    pub(crate) size: u64,
+}
+
+/// The entry that begins these bytes. `count` entries stand before it, and `last` is the path of the
+/// last of them.
+#[tactic(auto, unfolding(crate::specs::Reading::front_at))]
+pub(crate) fn front_of<'a>(
+    count: usize,
+    last: &[u8],
+    bytes: &'a [u8],
+) -> Result<(EntryFront<'a>, &'a [u8]), Stop>
+    ensures { Gives (λ x. (front_from x.0, x.1.now)) result (front_at count last.now bytes.now) }
+{
+    let (kind, rest) = next_kind_of(count, bytes)?;
+    let (path, rest) = path_of(last, rest)?;
+    let (mtime, rest) = mtime_of(kind, rest)?;
+    let (size, rest) = size_of(kind, rest)?;
+    let front = EntryFront {
+        kind,
+        path,
+        mtime,
+        size,
+    };
+    Ok((front, rest))
+}
+
+#[tactic(auto, unfolding(crate::specs::Reading::kind_at))]
+fn next_kind_of(count: usize, bytes: &[u8]) -> Result<(EntryKind, &[u8]), Stop>
+    ensures { Gives (λ x. (x.0, x.1.now)) result (kind_at count bytes.now) }
+{
+    let (byte, rest) = byte_of(bytes)?;
+    match kind_of(byte) {
+        None => Err(Stop::Wrong(bytes.len())),
+        Some(_) if count >= MAX_ENTRIES => Err(Stop::Full),
+        Some(kind) => Ok((kind, rest)),
+    }
+}
+
+fn kind_of(byte: u8) -> Option<EntryKind>
+    ensures { result ≡ kind_of byte }
+{
+    match byte {
+        b'F' => Some(EntryKind::File),
+        b'D' => Some(EntryKind::Folder),
+        b'G' => Some(EntryKind::Gone),
+        _ => None,
+    }
+}
+
+#[tactic(auto, unfolding(crate::specs::Reading::path_at))]
+fn path_of<'a>(last: &[u8], bytes: &'a [u8]) -> Result<(&'a str, &'a [u8]), Stop>
+    ensures { Gives (λ x. (x.0.now, x.1.now)) result (path_at last.now bytes.now) }
+{
+    let (size, start) = u16_of(bytes)?;
+    allow(0 < size && size <= MAX_PATH, bytes)?;
+    let (path, rest) = bytes_of(usize::from(size), start)?;
+    match path_text(path) {
+        Some(text) if is_below(last, path) => Ok((text, rest)),
+        _ => Err(Stop::Wrong(start.len())),
+    }
+}
+
+// The bytes as a path's text, where they are one.
+fn path_text(bytes: &[u8]) -> Option<&str>
+    ensures text { IfSome result (λ text. text.now ≡ bytes.now) }
+    ensures some { is_some result ≡ is_path bytes.now }
+{
+    let Ok(text) = str::from_utf8(bytes) else {
+        return None;
+    };
+    if !begins_with_slash(bytes) {
+        return None;
+    }
+    Some(text)
+}
+
+fn begins_with_slash(bytes: &[u8]) -> bool
+    ensures { result ≡ (slice_index bytes.now 0 == 0x2F) }
+{
+    match bytes {
+        [first, ..] => *first == b'/',
+        [] => false,
+    }
+}
+
+#[tactic(auto, unfolding(crate::specs::Reading::is_below))]
+fn is_below(one: &[u8], other: &[u8]) -> bool
+    ensures { result ≡ is_below one.now other.now }
+{
+    one.cmp(other) == Ordering::Less
+}
+
+fn mtime_of(kind: EntryKind, bytes: &[u8]) -> Result<(u64, &[u8]), Stop>
+    ensures { Gives (λ x. (x.0, x.1.now)) result (mtime_at kind bytes.now) }
+{
+    match kind {
+        EntryKind::File | EntryKind::Folder => u64_of(bytes),
+        EntryKind::Gone => Ok((0, bytes)),
+    }
+}
+
+fn size_of(kind: EntryKind, bytes: &[u8]) -> Result<(u64, &[u8]), Stop>
+    ensures { Gives (λ x. (x.0, x.1.now)) result (size_at kind bytes.now) }
+{
+    match kind {
+        EntryKind::File => {
+            let (size, rest) = u64_of(bytes)?;
+            allow(size <= MAX_SIZE, bytes)?;
+            Ok((size, rest))
+        }
+        EntryKind::Folder | EntryKind::Gone => Ok((0, bytes)),
+    }
+}
+
+/// The end that begins these bytes, of a stream of `count` entries.
+#[tactic(auto, unfolding(crate::specs::Reading::end_at))]
+pub(crate) fn end_of(count: usize, bytes: &[u8]) -> Result<(u64, &[u8]), Stop>
+    ensures { Gives (λ x. (x.0, x.1.now)) result (end_at count bytes.now) }
+{
+    let (_, rest) = mark_of(END_MARK, bytes)?;
+    let (number, after) = u64_of(rest)?;
+    allow(number == count as u64, rest)?;
+    Ok((number, after))
+}

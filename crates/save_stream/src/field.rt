@@ -1,0 +1,107 @@
+//! Reads single fields.
+
+ghost use Rattle.std.specs.Prelude.{◌≡◌, IfSome, is_some};
+ghost use Rattle.save_stream.specs.Reading.{Gives, Allows, byte_at, number_at, bytes_at, text_at, mark_at, is_name, is_printable};
+ghost use Rattle.std.specs.List.{list_all};
+
+use crate::stop::Stop;
+use byteorder::{BigEndian, ByteOrder};
+
+/// A byte, and the bytes behind it.
+pub(crate) fn byte_of(bytes: &[u8]) -> Result<(u8, &[u8]), Stop>
+    ensures { Gives (λ x. (x.0, x.1.now)) result (byte_at bytes.now) }
+{
+    match bytes {
+        [] => Err(Stop::More),
+        [byte, rest @ ..] => Ok((*byte, rest)),
+    }
+}
+
+/// A number of two bytes.
+#[tactic(auto, unfolding(crate::specs::Reading::number_at))]
+pub(crate) fn u16_of(bytes: &[u8]) -> Result<(u16, &[u8]), Stop>
+    ensures { Gives (λ x. (x.0, x.1.now)) result (number_at 2 bytes.now) }
+{
+    if bytes.len() < 2 {
+        return Err(Stop::More);
+    }
+    Ok((BigEndian::read_u16(bytes), &bytes[2..]))
+}
+
+/// A number of eight bytes.
+#[tactic(auto, unfolding(crate::specs::Reading::number_at))]
+pub(crate) fn u64_of(bytes: &[u8]) -> Result<(u64, &[u8]), Stop>
+    ensures { Gives (λ x. (x.0, x.1.now)) result (number_at 8 bytes.now) }
+{
+    if bytes.len() < 8 {
+        return Err(Stop::More);
+    }
+    Ok((BigEndian::read_u64(bytes), &bytes[8..]))
+}
+
+/// So many bytes.
+#[tactic(auto, unfolding(crate::specs::Reading::bytes_at))]
+pub(crate) fn bytes_of(size: usize, bytes: &[u8]) -> Result<(&[u8], &[u8]), Stop>
+    ensures { Gives (λ x. (x.0.now, x.1.now)) result (bytes_at size bytes.now) }
+{
+    if bytes.len() < size {
+        return Err(Stop::More);
+    }
+    Ok(bytes.split_at(size))
+}
+
+/// Judges the field that begins these bytes.
+pub(crate) fn allow(allowed: bool, bytes: &[u8]) -> Result<(), Stop>
+    ensures { Allows allowed bytes.now result }
+{
+    if !allowed {
+        return Err(Stop::Wrong(bytes.len()));
+    }
+    Ok(())
+}
+
+/// A byte that has to be this one.
+#[tactic(auto, unfolding(crate::specs::Reading::mark_at))]
+pub(crate) fn mark_of(mark: u8, bytes: &[u8]) -> Result<(u8, &[u8]), Stop>
+    ensures { Gives (λ x. (x.0, x.1.now)) result (mark_at mark bytes.now) }
+{
+    let (byte, rest) = byte_of(bytes)?;
+    allow(byte == mark, bytes)?;
+    Ok((byte, rest))
+}
+
+/// A name of `least` to `most` bytes, behind its length.
+#[tactic(auto, unfolding(crate::specs::Reading::text_at))]
+pub(crate) fn text_of(least: u8, most: u8, bytes: &[u8]) -> Result<(&str, &[u8]), Stop>
+    ensures { Gives (λ x. (x.0.now, x.1.now)) result (text_at least most bytes.now) }
+{
+    let (size, start) = byte_of(bytes)?;
+    allow(least <= size && size <= most, bytes)?;
+    let (text, rest) = bytes_of(usize::from(size), start)?;
+    match name_text(text) {
+        Some(text) => Ok((text, rest)),
+        None => Err(Stop::Wrong(start.len())),
+    }
+}
+
+// The bytes as a name's text, where they are one.
+#[tactic(auto, unfolding(crate::specs::Reading::is_name))]
+fn name_text(bytes: &[u8]) -> Option<&str>
+    ensures text { IfSome result (λ text. text.now ≡ bytes.now) }
+    ensures some { is_some result ≡ is_name bytes.now }
+{
+    let Ok(text) = str::from_utf8(bytes) else {
+        return None;
+    };
+    if !is_free_of_control(bytes) {
+        return None;
+    }
+    Some(text)
+}
+
+// No byte is a control character of ASCII.
+fn is_free_of_control(bytes: &[u8]) -> bool
+    ensures { result ≡ list_all is_printable bytes.now }
+{
+    bytes.iter().all(|byte| *byte >= 0x20 && *byte != 0x7F)
+}

@@ -1,0 +1,29 @@
+//! The stream of a save set: a head, entries with strictly ascending paths, and an end with their
+//! count. It is written in one spelling, and read in any pieces.
+//! docs/formats.md has its bytes.
+#![tactic(auto)]
+
+mod encode;
+mod entry;
+mod entry_reading;
+mod fault;
+mod field;
+mod head;
+mod head_reading;
+mod laws;
+mod level;
+mod reader;
+mod state;
+mod stop;
+
+pub use encode::encode_head;
+pub use entry::{EntryKind, IndexEntry, MAX_ENTRIES, MAX_SIZE};
+pub use fault::StreamFault;
+pub use head::SetHead;
+pub use laws::{one_spelling, same_in_any_pieces, streams_are_read};
+pub use level::Level;
+use level::MAX_RANK;
+pub use reader::StreamReader;
+
+#[cfg(test)]
+mod tests;

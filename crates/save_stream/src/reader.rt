@@ -1,0 +1,121 @@
+//! Reads a stream that comes in pieces.
+
+ghost use Rattle.std.specs.Prelude.{◌≡◌, ◌+◌, ◌≤◌, ◌^◌, length, IfOk, OnErr, option_copied};
+ghost use Rattle.save_stream.specs.Spelling.{IsHead, head_text};
+ghost use Rattle.save_stream.specs.Reading.{Takes, start, behind_head, reads};
+ghost use Rattle.save_stream.specs.View.{reading_of};
+
+use crate::encode::HEAD_SIZE;
+use crate::state::State;
+use crate::{IndexEntry, SetHead, StreamFault};
+use room_base::Memory;
+use std::alloc::Global;
+use std::marker::Model;
+
+/// The most bytes of a head, an entry or an end that isn't complete: an entry of a file lacks a byte.
+const MAX_PENDING: usize = 1043;
+
+/// Reads the stream of a save set, which may come in any pieces. Contracts see what it has read.
+#[derive(Debug, Drop)]
+pub struct StreamReader {
+    alloc: Global,
+    state: State,
+}
+
+impl Model for StreamReader {
+    ghost use Rattle.save_stream.specs.Reading.{Reading};
+
+    ghost Value = { Reading };
+
+    ghost use Rattle.save_stream.specs.View.{reading_of};
+
+    ghost view = { λ reader. reading_of reader.state };
+}
+
+impl StreamReader {
+    /// A reader of a whole stream.
+    pub fn whole(alloc: Global) -> Result<StreamReader, Memory>
+        ensures { IfOk result (λ reader. reader ≡ start) }
+    {
+        StreamReader::from(alloc, 0, None)
+    }
+
+    /// A reader that stands behind the text of this head.
+    pub fn after(alloc: Global, head: SetHead) -> Result<StreamReader, Memory>
+        requires { IsHead head }
+        ensures { IfOk result (λ reader. reader ≡ behind_head (length (head_text head)) head) }
+    {
+        let read = head_size(&head);
+        StreamReader::from(alloc, read, Some(head))
+    }
+
+    fn from(alloc: Global, read: u64, head: Option<SetHead>) -> Result<StreamReader, Memory>
+        ensures { IfOk result (λ reader. reader ≡ record start { read = read; head = head }) }
+    {
+        let state = State {
+            read,
+            left: 0,
+            ended: false,
+            head,
+            entries: Vec::new(alloc),
+            pending: Vec::with_capacity(alloc, MAX_PENDING)?,
+        };
+        Ok(StreamReader { alloc, state })
+    }
+
+    /// Reads the next bytes of the stream. An `Err` leaves the reader as it was.
+    pub fn take(&mut self, piece: &[u8]) -> Result<(), StreamFault>
+        requires { self.old.read + length piece.now ≤ 2 ^ 36 }
+        ensures read { Takes (reads self.old piece.now) result self.new }
+        ensures err { OnErr result (self.new ≡ self.old) }
+    {
+        let mark = self.state.mark(self.alloc)?;
+        match self.state.take(self.alloc, piece) {
+            Ok(()) => Ok(()),
+            Err(fault) => {
+                self.state.go_back(mark);
+                Err(fault)
+            }
+        }
+    }
+
+    /// The stream has ended, and no byte may follow.
+    pub fn ended(&self) -> bool
+        ensures { result ≡ self.now.ended }
+    {
+        self.state.ended
+    }
+
+    /// The head of the stream, once it was read.
+    pub fn head(&self) -> Option<&SetHead>
+        ensures { option_copied result ≡ self.now.head }
+    {
+        self.state.head.as_ref()
+    }
+
+    /// The entries that were read, up to the bytes of their files.
+    pub fn entries(&self) -> &[IndexEntry]
+        ensures { result.now ≡ self.now.entries }
+    {
+        &self.state.entries
+    }
+
+    /// How many bytes of the stream were read, with those of a head that was given.
+    pub fn read(&self) -> u64
+        ensures { result ≡ self.now.read }
+    {
+        self.state.read
+    }
+}
+
+// How many bytes the text of a head has.
+fn head_size(head: &SetHead) -> u64
+    requires { IsHead head.now }
+    ensures { result ≡ length (head_text head.now) }
+{
+    let client = head.client.as_bytes().len();
+    let set = head.set.as_bytes().len();
+    let group = head.group.as_bytes().len();
+    let pool = head.pool.as_bytes().len();
+    (HEAD_SIZE + client + set + group + pool) as u64
+}

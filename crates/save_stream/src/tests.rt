@@ -1,0 +1,230 @@
+ghost use Rattle.std.specs.Prelude.{◌≤◌, length, IfOk};
+ghost use Rattle.save_stream.specs.Spelling.{IsHead};
+
+use super::*;
+use room_base::{Memory, Moment, Name, Ssid};
+use std::alloc::Global;
+use std::test::*;
+
+// The head of `sample_head`, in 70 bytes.
+const HEAD: [u8; 70] = [
+    b'H', 0, 0, 0, 0, 0, 0, 0, 1, 0, 0, 0, 0, 0, 0, 0, 0, 0, 0, 0, 0, 0, 0x65, 0x53, 0xf1, 0x00, 0,
+    0, 0, 0, 0x65, 0x53, 0xf1, 0x00, 0, 0, 0, 0, 0x65, 0x53, 0xf1, 0x01, 5, b'a', b'l', b'p', b'h',
+    b'a', 5, b'/', b'h', b'o', b'm', b'e', 7, b'n', b'i', b'g', b'h', b't', b'l', b'y', 7, b'D',
+    b'e', b'f', b'a', b'u', b'l', b't',
+];
+
+// Two files, `/home/a` and `/home/b`, and the end.
+const BODY: [u8; 69] = [
+    b'F', 0, 7, b'/', b'h', b'o', b'm', b'e', b'/', b'a', 0, 0, 0, 0, 0, 0, 0, 0, 0, 0, 0, 0, 0, 0,
+    0, 5, b'h', b'e', b'l', b'l', b'o', b'F', 0, 7, b'/', b'h', b'o', b'm', b'e', b'/', b'b', 0, 0,
+    0, 0, 0, 0, 0, 0, 0, 0, 0, 0, 0, 0, 0, 3, b'h', b'i', b'\n', b'E', 0, 0, 0, 0, 0, 0, 0, 2,
+];
+
+fn sample_head(alloc: Global) -> Result<SetHead, Memory>
+    ensures { IfOk result (λ head. IsHead head) }
+{
+    Ok(SetHead {
+        ssid: Ssid(1),
+        base: Ssid(0),
+        level: Level::ranked(0),
+        saved: Moment(1_700_000_000),
+        browse: Moment(1_700_000_000),
+        retain: Moment(1_700_000_001),
+        client: Name::from_text(alloc, "alpha")?,
+        set: Name::from_text(alloc, "/home")?,
+        group: Name::from_text(alloc, "nightly")?,
+        pool: Name::from_text(alloc, "Default")?,
+    })
+}
+
+// Takes a piece of a short stream.
+fn fed(reader: &mut StreamReader, piece: &[u8]) -> Result<(), StreamFault>
+    requires { length piece.now ≤ 1000000 }
+{
+    if reader.read() > 1_000_000 {
+        return Err(StreamFault::Memory);
+    }
+    reader.take(piece)
+}
+
+// The reader has read the head of 70 bytes and the two files.
+fn has_both(reader: &StreamReader) -> bool {
+    match reader.entries() {
+        [one, other] => {
+            reader.ended()
+                && reader.read() == 139
+                && one.kind == EntryKind::File
+                && one.path.as_bytes() == b"/home/a".as_slice()
+                && (one.size, one.place) == (5, 96)
+                && other.path.as_bytes() == b"/home/b".as_slice()
+                && (other.size, other.place) == (3, 127)
+        }
+        _ => false,
+    }
+}
+
+#[test]
+fn head_has_its_bytes(rt: HostRuntime) -> Result<(), Fail> {
+    let alloc = rt.alloc();
+    let head = sample_head(alloc)?;
+    assert_eq!(rt; encode_head(alloc, &head)?.as_slice(), HEAD.as_slice());
+    let mut reader = StreamReader::whole(alloc)?;
+    assert_eq!(rt; fed(&mut reader, &HEAD), Ok(()));
+    assert_eq!(rt; reader.head(), Some(&head));
+    assert_eq!(rt; reader.read(), 70);
+    assert_eq!(rt; head.copy()?, head);
+    Ok(())
+}
+
+#[test]
+fn body_is_read_in_any_two_pieces(rt: HostRuntime) -> Result<(), Fail> {
+    let alloc = rt.alloc();
+    for cut in 0..BODY.len() + 1 {
+        let (front, back) = BODY.split_at(cut);
+        let mut reader = StreamReader::after(alloc, sample_head(alloc)?)?;
+        assert_eq!(rt; fed(&mut reader, front), Ok(()));
+        assert_eq!(rt; fed(&mut reader, back), Ok(()));
+        assert!(rt; has_both(&reader));
+    }
+    Ok(())
+}
+
+#[test]
+fn stream_is_read_byte_by_byte(rt: HostRuntime) -> Result<(), Fail> {
+    let alloc = rt.alloc();
+    let mut reader = StreamReader::whole(alloc)?;
+    for byte in HEAD.iter().chain(&BODY) {
+        assert!(rt; !reader.ended());
+        assert_eq!(rt; fed(&mut reader, &[*byte]), Ok(()));
+    }
+    assert!(rt; has_both(&reader));
+    assert_eq!(rt;
+        fed(&mut reader, b"E"),
+        Err(StreamFault::Bad { offset: 139 })
+    );
+    assert_eq!(rt; fed(&mut reader, b""), Ok(()));
+    Ok(())
+}
+
+// A byte of the stream, what stands there in its place, and where the field begins that is then bad.
+const BAD_FIELDS: [(usize, u8, u64); 28] = [
+    (0, b'E', 0),
+    (8, 0, 1),
+    (16, 1, 9),
+    (17, 1, 17),
+    (17, 11, 17),
+    (18, 1, 18),
+    (26, 1, 26),
+    (34, 1, 34),
+    (38, 0x64, 34),
+    (42, 0, 42),
+    (42, 65, 42),
+    (47, b'\n', 43),
+    (48, 0, 48),
+    (53, 0x1f, 49),
+    (54, 65, 54),
+    (61, 0x7f, 55),
+    (62, 0, 62),
+    (69, 0xff, 63),
+    (70, b'H', 70),
+    (72, 0, 71),
+    (71, 4, 71),
+    (73, b'h', 73),
+    (79, 0xff, 73),
+    (88, 1, 88),
+    (101, b'f', 101),
+    (110, b'a', 104),
+    (119, 1, 119),
+    (138, 3, 131),
+];
+
+#[test]
+fn bad_fields_have_their_offsets(rt: HostRuntime) -> Result<(), Fail> {
+    let alloc = rt.alloc();
+    for (place, byte, offset) in BAD_FIELDS {
+        let mut stream = Vec::from_slice(alloc, &HEAD)?;
+        stream.extend_from_slice(&BODY)?;
+        if let Some(other) = stream.get_mut(place) {
+            *other = byte;
+        }
+        let bad = Err(StreamFault::Bad { offset });
+        let mut reader = StreamReader::whole(alloc)?;
+        if stream.len() <= 1000 {
+            assert_eq!(rt; fed(&mut reader, &stream), bad);
+        }
+        assert_eq!(rt;
+            (reader.read(), reader.head(), reader.entries().len()),
+            (0, None, 0)
+        );
+        let (front, back) = stream.split_at(place.min(stream.len()));
+        if front.len() <= 1000 && back.len() <= 1000 {
+            assert_eq!(rt; fed(&mut reader, front), Ok(()));
+            assert_eq!(rt; fed(&mut reader, back), bad);
+        }
+        assert_eq!(rt; reader.read(), place as u64);
+    }
+    Ok(())
+}
+
+#[test]
+fn path_that_does_not_ascend_is_bad(rt: HostRuntime) -> Result<(), Fail> {
+    let alloc = rt.alloc();
+    let mut reader = StreamReader::after(alloc, sample_head(alloc)?)?;
+    for byte in &BODY[..34] {
+        assert_eq!(rt; fed(&mut reader, &[*byte]), Ok(()));
+    }
+    assert_eq!(rt;
+        fed(&mut reader, b"/home/a"),
+        Err(StreamFault::Bad { offset: 104 })
+    );
+    assert_eq!(rt; reader.read(), 104);
+    assert_eq!(rt; fed(&mut reader, b"/home/"), Ok(()));
+    assert_eq!(rt;
+        fed(&mut reader, b"a"),
+        Err(StreamFault::Bad { offset: 104 })
+    );
+    assert_eq!(rt; fed(&mut reader, &BODY[40..]), Ok(()));
+    assert!(rt; has_both(&reader));
+    Ok(())
+}
+
+// The entry of a path of five digits that is gone.
+fn gone(number: u32) -> [u8; 9] {
+    let digit = |ten: u32| b'0' + (number / ten % 10) as u8;
+    [
+        b'G',
+        0,
+        6,
+        b'/',
+        digit(10_000),
+        digit(1000),
+        digit(100),
+        digit(10),
+        digit(1),
+    ]
+}
+
+#[test]
+fn one_entry_too_many(rt: HostRuntime) -> Result<(), Fail> {
+    let alloc = rt.alloc();
+    let mut reader = StreamReader::after(alloc, sample_head(alloc)?)?;
+    for number in 0..10_000 {
+        assert_eq!(rt; fed(&mut reader, &gone(number)), Ok(()));
+    }
+    assert_eq!(rt;
+        fed(&mut reader, b"D"),
+        Err(StreamFault::TooMany { limit: 10_000 })
+    );
+    assert_eq!(rt;
+        fed(&mut reader, b"X"),
+        Err(StreamFault::Bad { offset: 90_070 })
+    );
+    assert_eq!(rt; reader.entries().len(), 10_000);
+    assert_eq!(rt;
+        fed(&mut reader, &[b'E', 0, 0, 0, 0, 0, 0, 0x27, 0x10]),
+        Ok(())
+    );
+    assert!(rt; reader.ended());
+    Ok(())
+}
