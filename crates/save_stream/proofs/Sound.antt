@@ -157,9 +157,12 @@ text-takes least most bytes is =
     when-weaker (checked is_name start (bytes_at size start)) (λ text rest. (Takes start text rest × (length text ≡ size)) × (is_name text ≡ true)) _
     (checked-when is_name start (bytes_at size start) (λ text rest. Takes start text rest × (length text ≡ size)) (bytes-takes size start first.0.rest_fits))
     (λ text rest second.
-    let count = second.0.1 in
-    (subst (λ (n : ℕ). Takes bytes (n ∷ text) rest) (sym count) (Takes-then bytes (size ∷ []) start text rest first.0 second.0.0),
-    omega (arith, count, leb-true least size bounds.0), omega (arith, count, leb-true size most bounds.1), is_name-is text second.1)))
+    let count = second.0.1 in (
+      subst (λ (n : ℕ). Takes bytes (n ∷ text) rest) (sym count) (Takes-then bytes (size ∷ []) start text rest first.0 second.0.0),
+      omega (arith, count, leb-true least size bounds.0),
+      omega (arith, count, leb-true size most bounds.1),
+      is_name-is text second.1,
+    )))
 
 mark-takes : (mark : ℕ) (bytes : List ℕ) → IsBytes bytes → When (mark_at mark bytes) (λ byte rest. Takes bytes (mark ∷ []) rest)
 unfolding mark_at
@@ -276,10 +279,22 @@ head-takes bytes is =
     then-when (numbers_at bytes) _ _ _ (numbers-takes bytes is)
     (λ numbers after-numbers a. then-when (names_at after-numbers) _ _ _ (names-takes after-numbers a.0.rest_fits)
     (λ names rest b.
-    let both = Takes-then _ _ _ _ _ a.0 b.0 in
-    (subst (λ (text : List ℕ). Takes bytes text rest) (one_behind_other (numbers_text numbers) (short_text names.client) (short_text names.set) (short_text names.group) (short_text names.pool)) both,
-    record { ssid = a.1.ssid; base = a.1.base; level = a.1.level; full = a.1.full; saved = a.1.saved; browse = a.1.browse; retain = a.1.retain;
-      client = b.1.client; set = b.1.set; group = b.1.group; pool = b.1.pool })))
+    let both = Takes-then _ _ _ _ _ a.0 b.0 in (
+      subst (λ (text : List ℕ). Takes bytes text rest) (one_behind_other (numbers_text numbers) (short_text names.client) (short_text names.set) (short_text names.group) (short_text names.pool)) both,
+      record {
+        ssid = a.1.ssid;
+        base = a.1.base;
+        level = a.1.level;
+        full = a.1.full;
+        saved = a.1.saved;
+        browse = a.1.browse;
+        retain = a.1.retain;
+        client = b.1.client;
+        set = b.1.set;
+        group = b.1.group;
+        pool = b.1.pool;
+      },
+    )))
 
 -- ---- entries and the end
 
@@ -349,9 +364,12 @@ path-takes last bytes is =
     (checked-when fits start (bytes_at size start) (λ path rest. Takes start path rest × (length path ≡ size)) (bytes-takes size start first.0.rest_fits))
     (λ path rest second.
     let count = second.0.1 in
-    let tests = both-true (is_path path) (is_below last path) second.1 in
-    (subst (λ (n : ℕ). Takes bytes (short_number_text n ++ path) rest) (sym count) (Takes-then bytes (short_number_text size) start path rest first.0 second.0.0),
-    (omega (arith, count, ltb-true 0 size bounds.0), omega (arith, count, leb-true size 1024 bounds.1)), is_path-is path tests.0, is_below-is last path tests.1)))
+    let tests = both-true (is_path path) (is_below last path) second.1 in (
+      subst (λ (n : ℕ). Takes bytes (short_number_text n ++ path) rest) (sym count) (Takes-then bytes (short_number_text size) start path rest first.0 second.0.0),
+      (omega (arith, count, ltb-true 0 size bounds.0), omega (arith, count, leb-true size 1024 bounds.1)),
+      is_path-is path tests.0,
+      is_below-is last path tests.1,
+    )))
 
 -- an entry that begins these bytes, and is allowed
 pub record FrontIs (count : ℕ) (last bytes : List ℕ) (front : Front) (rest : List ℕ) : Type 0 where
