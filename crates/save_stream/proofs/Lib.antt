@@ -4,5 +4,6 @@ pub mod Lengths
 pub mod Names
 pub mod OneSpelling
 pub mod Sound
+pub mod Standing
 pub mod Taking
 pub mod Whole
