@@ -5,5 +5,6 @@ pub mod Names
 pub mod OneSpelling
 pub mod Sound
 pub mod Standing
+pub mod Steps
 pub mod Taking
 pub mod Whole

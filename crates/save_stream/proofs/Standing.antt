@@ -46,27 +46,27 @@ no-rest {X = X} parse text pending (next ∷ rest) byte x again is waits =
 
 -- ---- the bytes of an entry or an end that is to come
 
-WaitsIf : Bool → List IndexEntry → List ℕ → Type 0
+abbrev pub WaitsIf : Bool → List IndexEntry → List ℕ → Type 0
 WaitsIf true entries pending = end_at (length entries) pending ≡ Err stops.More
 WaitsIf false entries pending = front_at (length entries) (last_path entries) pending ≡ Err stops.More
 
 -- pending bytes aren't complete
-Waits : List IndexEntry → List ℕ → Type 0
+abbrev pub Waits : List IndexEntry → List ℕ → Type 0
 Waits entries pending = WaitsIf (begins_end pending) entries pending
 
-none-waits : (entries : List IndexEntry) → Waits entries []
-unfolding Waits WaitsIf front_at kind_at
+pub none-waits : (entries : List IndexEntry) → Waits entries []
+unfolding front_at kind_at
 none-waits entries = refl
 
-end-waits : (entries : List IndexEntry) (pending : List ℕ) (byte : ℕ) → Waits entries pending → begins_end (pending ++ byte ∷ []) ≡ true
+pub end-waits : (entries : List IndexEntry) (pending : List ℕ) (byte : ℕ) → Waits entries pending → begins_end (pending ++ byte ∷ []) ≡ true
     → end_at (length entries) pending ≡ Err stops.More
-unfolding Waits WaitsIf end_at mark_at
+unfolding end_at mark_at
 end-waits entries [] byte waits ends = refl
 end-waits entries (first ∷ pending) byte waits ends = subst (λ (test : Bool). WaitsIf test entries (first ∷ pending)) ends waits
 
-front-waits : (entries : List IndexEntry) (pending : List ℕ) (byte : ℕ) → Waits entries pending → begins_end (pending ++ byte ∷ []) ≡ false
+pub front-waits : (entries : List IndexEntry) (pending : List ℕ) (byte : ℕ) → Waits entries pending → begins_end (pending ++ byte ∷ []) ≡ false
     → front_at (length entries) (last_path entries) pending ≡ Err stops.More
-unfolding Waits WaitsIf front_at kind_at
+unfolding front_at kind_at
 front-waits entries [] byte waits ends = refl
 front-waits entries (first ∷ pending) byte waits ends = subst (λ (test : Bool). WaitsIf test entries (first ∷ pending)) ends waits
 
@@ -137,10 +137,10 @@ has-fields kinds.File mtime size missing fits is = (fits.0, omega (arith, fits.1
 has-fields kinds.Folder mtime size missing fits is = (fits.0, nil_from_length missing (is ∙ fits.1))
 has-fields kinds.Gone mtime size missing fits is = (fits.0, nil_from_length missing (is ∙ fits.1))
 
-saved_of : Front → List ℕ → Saved
+abbrev pub saved_of : Front → List ℕ → Saved
 saved_of front missing = record { kind = front.kind; path = front.path; mtime = front.mtime; bytes = missing }
 
-spells-more : (text : List ℕ) (head : SetHead) (entries : List Saved) (index : List IndexEntry) (pending : List ℕ) (byte : ℕ)
+pub spells-more : (text : List ℕ) (head : SetHead) (entries : List Saved) (index : List IndexEntry) (pending : List ℕ) (byte : ℕ)
     → Spells text head entries false index pending → Spells (text ++ byte ∷ []) head entries false index (pending ++ byte ∷ [])
 spells-more text head entries index pending byte is = record {
   each = is.each;
@@ -150,7 +150,7 @@ spells-more text head entries index pending byte is = record {
   parts = ap (λ (t : List ℕ). t ++ byte ∷ []) is.parts ∙ append_assoc (head_text head) (flat_map entry_text entries ++ pending) (byte ∷ [])
     ∙ ap (λ (t : List ℕ). head_text head ++ t) (append_assoc (flat_map entry_text entries) pending (byte ∷ [])) }
 
-spells-end : (text : List ℕ) (head : SetHead) (entries : List Saved) (index : List IndexEntry) (pending : List ℕ)
+pub spells-end : (text : List ℕ) (head : SetHead) (entries : List Saved) (index : List IndexEntry) (pending : List ℕ)
     → Spells text head entries false index pending → pending ≡ end_text (length index) → Spells text head entries true index []
 spells-end text head entries index pending is ends = record {
   each = is.each;
@@ -160,11 +160,10 @@ spells-end text head entries index pending is ends = record {
   parts = is.parts ∙ ap (λ (t : List ℕ). head_text head ++ (flat_map entry_text entries ++ t))
     (ends ∙ ap end_text (ap (λ (l : List IndexEntry). length l) is.index_is ∙ length-index_from (length (head_text head)) entries)) }
 
-spells-entry : (text : List ℕ) (head : SetHead) (entries : List Saved) (index : List IndexEntry) (pending : List ℕ) (front : Front) (rest missing : List ℕ)
+pub spells-entry : (text : List ℕ) (head : SetHead) (entries : List Saved) (index : List IndexEntry) (pending : List ℕ) (front : Front) (rest missing : List ℕ)
     → Spells text head entries false index pending → FrontIs (length index) (last_path index) pending front rest
     → pending ≡ entry_front front.kind front.path front.mtime front.size → length missing ≡ front.size
     → Spells (text ++ missing) head (entries ++ saved_of front missing ∷ []) false (index ++ entry_from (length text) front ∷ []) []
-unfolding saved_of
 spells-entry text head entries index pending front rest missing is fits pending-is size =
     let at = length (head_text head) in
     let texts = flat_map entry_text entries in
