@@ -9,10 +9,10 @@ use Rattle.save_stream.specs.declared.fault.StreamFault.TheVariants as faults
 use Rattle.save_stream.specs.declared.head.SetHead.{SetHead}
 use Rattle.save_stream.specs.declared.stop.Stop.{Stop}
 use Rattle.save_stream.specs.declared.stop.Stop.TheVariants as stops
-use Rattle.save_stream.specs.Spelling.{max_entries, head_text, Saved, end_text}
-use Rattle.save_stream.specs.Reading.{Part, Reading, Front, start, read_alone, settled, settle, settle_rest, begins_end, with_head, with_entry, with_end, entry_from, last_path, with_byte, passed, after_byte, then_reads, reads, head_at, front_at, end_at, mark_at, numbers_at}
+use Rattle.save_stream.specs.Spelling.{max_entries, head_text, Saved, entry_front, end_text}
+use Rattle.save_stream.specs.Reading.{Part, Reading, Front, start, read_alone, settled, settle, settle_by, begins_end, with_head, with_entry, with_end, entry_from, last_path, with_byte, passed, after_byte, then_reads, reads, head_at, front_at, end_at, mark_at, numbers_at}
 use Rattle.save_stream.specs.Standing.{Spells, Behind, Within, StandsAt, Stands}
-use Rattle.save_stream.proofs.Sound.{IsBytes}
+use Rattle.save_stream.proofs.Sound.{IsBytes, FrontIs}
 use Rattle.save_stream.proofs.Standing.{Waits, WaitsIf, none-waits, end-waits, front-waits, end-whole, head-whole, front-whole, saved_of, spells-more, spells-end, spells-entry}
 use Rattle.save_stream.proofs.Taking.{after-passed}
 use Rattle.save_stream.proofs.Whole.{next-byte, length-index_from}
@@ -174,3 +174,91 @@ entries-fit : (text : List ℕ) (head : SetHead) (entries : List IndexEntry) (pe
 entries-fit text head entries pending at =
     let old = at.spelled [] refl in
     omega (arith, old.1.count, ap (λ (l : List IndexEntry). length l) old.1.index_is ∙ length-index_from (length (head_text head)) old.0)
+
+entry-step : (text : List ℕ) (byte : ℕ) (head : SetHead) (read : ℕ) (entries : List IndexEntry) (pending : List ℕ) (front : Front) (rest : List ℕ)
+    → Holds text (behind head read 0 false entries pending) → pending ++ byte ∷ [] ≡ entry_front front.kind front.path front.mtime front.size
+    → FrontIs (length entries) (last_path entries) (pending ++ byte ∷ []) front rest
+    → Holds (text ++ byte ∷ []) (with_entry (with_byte (behind head read 0 false entries pending) byte) front)
+entry-step text byte head read entries pending front rest holds is fits =
+    let at = holds.stands.at in
+    let now = spells-now text byte head entries pending at in
+    let size : read + 1 ≡ length (text ++ byte ∷ []) = longer text byte read holds.stands.read in
+    record {
+      stands = record {
+        read = size;
+        at = record {
+          allowed = at.allowed;
+          spelled = λ missing left. (now.0 ++ saved_of front missing ∷ [],
+            subst (λ (n : ℕ). Spells ((text ++ byte ∷ []) ++ missing) head (now.0 ++ saved_of front missing ∷ []) false (entries ++ entry_from n front ∷ []) []) (sym size)
+            (spells-entry (text ++ byte ∷ []) head now.0 entries (pending ++ byte ∷ []) front rest missing now.1 fits is left));
+          whole = λ some. (refl, refl) } };
+      bytes = IsBytes-none;
+      waits = λ _. none-waits (entries ++ entry_from (read + 1) front ∷ []) }
+
+-- the last byte so far of an entry or an end
+rest-step : (test : Bool) (text : List ℕ) (byte : ℕ) (head : SetHead) (read : ℕ) (entries : List IndexEntry) (pending : List ℕ) (next : Reading)
+    → begins_end (pending ++ byte ∷ []) ≡ test → Holds text (behind head read 0 false entries pending) → byte < 256
+    → settle_by test (with_byte (behind head read 0 false entries pending) byte) ≡ Ok next → Holds (text ++ byte ∷ []) next
+rest-step true text byte head read entries pending next ends holds small is =
+    let now = with_byte (behind head read 0 false entries pending) byte in
+    let waits = end-waits entries pending byte (holds.waits refl) ends in
+    elim (settled-is (with_end now) now (end_at (length entries) (pending ++ byte ∷ [])) next is) [
+      | inl found ↦
+          subst (λ (r : Reading). Holds (text ++ byte ∷ []) r) (sym found.1.2)
+          (end-step text byte head read entries pending found.0 holds
+          (end-whole (length entries) pending byte found.0 found.1.0 (entries-fit text head entries pending holds.stands.at) (IsBytes-more pending byte holds.bytes small) waits found.1.1))
+      | inr waiting ↦
+          subst (λ (r : Reading). Holds (text ++ byte ∷ []) r) (sym waiting.1)
+          (waiting-step text byte head read entries pending holds small (subst (λ (t : Bool). WaitsIf t entries (pending ++ byte ∷ [])) (sym ends) waiting.0))
+    ]
+rest-step false text byte head read entries pending next ends holds small is =
+    let now = with_byte (behind head read 0 false entries pending) byte in
+    let waits = front-waits entries pending byte (holds.waits refl) ends in
+    elim (settled-is (with_entry now) now (front_at (length entries) (last_path entries) (pending ++ byte ∷ [])) next is) [
+      | inl found ↦
+          (let complete = front-whole (length entries) (last_path entries) pending byte found.0 found.1.0 (IsBytes-more pending byte holds.bytes small) waits found.1.1 in
+          subst (λ (r : Reading). Holds (text ++ byte ∷ []) r) (sym found.1.2)
+          (entry-step text byte head read entries pending found.0 found.1.0 holds complete.0 complete.1))
+      | inr waiting ↦
+          subst (λ (r : Reading). Holds (text ++ byte ∷ []) r) (sym waiting.1)
+          (waiting-step text byte head read entries pending holds small (subst (λ (t : Bool). WaitsIf t entries (pending ++ byte ∷ [])) (sym ends) waiting.0))
+    ]
+
+behind-step : (text : List ℕ) (byte : ℕ) (head : SetHead) (read left : ℕ) (ended : Bool) (entries : List IndexEntry) (pending : List ℕ) (next : Reading)
+    → Holds text (behind head read left ended entries pending) → byte < 256 → after_byte (behind head read left ended entries pending) byte ≡ Ok next → Holds (text ++ byte ∷ []) next
+unfolding settle
+behind-step text byte head read left true entries pending next holds small is = absurd (not-done _ next is)
+behind-step text byte head read (suc left) false entries pending next holds small is =
+    let reading = behind head read (suc left) false entries pending in
+    let passes : passed 1 reading ≡ next = done-is _ next (sym (after-passed reading byte refl (lt-ltb 0 (suc left) (omega arith))) ∙ is) in
+    subst (λ (r : Reading). Holds (text ++ byte ∷ []) r) passes (file-step text byte head read left entries pending holds)
+behind-step text byte head read zero false entries pending next holds small is =
+    rest-step (begins_end (pending ++ byte ∷ [])) text byte head read entries pending next refl holds small (sym (next-byte (behind head read 0 false entries pending) byte refl refl) ∙ is)
+
+byte-step : (text : List ℕ) (byte read left : ℕ) (ended : Bool) (head : Option SetHead) (entries : List IndexEntry) (pending : List ℕ) (next : Reading)
+    → Holds text (record { read = read; left = left; ended = ended; head = head; entries = entries; pending = pending }) → byte < 256
+    → after_byte (record { read = read; left = left; ended = ended; head = head; entries = entries; pending = pending }) byte ≡ Ok next → Holds (text ++ byte ∷ []) next
+byte-step text byte read left ended None entries pending next holds small is = head-step text byte read left ended entries pending next holds small is
+byte-step text byte read left ended (Some head) entries pending next holds small is = behind-step text byte head read left ended entries pending next holds small is
+
+-- ---- whole texts
+
+then-is : (read : Result Reading StreamFault) (onward : Reading → Result Reading StreamFault) (next : Reading) → then_reads read onward ≡ Ok next
+    → (mid : Reading) × (read ≡ Ok mid) × (onward mid ≡ Ok next)
+then-is (Ok mid) onward next is = (mid, refl, is)
+then-is (Err fault) onward next is = absurd (not-done fault next is)
+
+pub reads-holds : (bytes text : List ℕ) (reading next : Reading) → Holds text reading → IsBytes bytes → reads reading bytes ≡ Ok next → Holds (text ++ bytes) next
+reads-holds [] text reading next holds fit is =
+    subst (λ (r : Reading). Holds (text ++ []) r) (done-is reading next is) (subst (λ (t : List ℕ). Holds t reading) (sym (append-nil text)) holds)
+reads-holds (byte ∷ bytes) text reading next holds fit is =
+    let step = then-is (after_byte reading byte) (λ now. reads now bytes) next is in
+    let one = byte-step text byte reading.read reading.left reading.ended reading.head reading.entries reading.pending step.0 holds (fit 0) step.1 in
+    subst (λ (t : List ℕ). Holds t next) (append_assoc text (byte ∷ []) bytes) (reads-holds bytes (text ++ byte ∷ []) step.0 next one (λ i. fit (suc i)) step.2)
+
+start-holds : Holds [] start
+unfolding head_at numbers_at mark_at
+start-holds = record { stands = record { read = refl; at = record { bytes = refl; going = refl; none = (refl, refl) } }; bytes = IsBytes-none; waits = refl }
+
+pub reads-stand : (text : List ℕ) (reading : Reading) → IsBytes text → reads start text ≡ Ok reading → Stands text reading
+reads-stand text reading fit is = (reads-holds text [] start reading start-holds fit is).stands
