@@ -6,5 +6,6 @@ pub mod OneSpelling
 pub mod Sound
 pub mod Standing
 pub mod Steps
+pub mod Streams
 pub mod Taking
 pub mod Whole

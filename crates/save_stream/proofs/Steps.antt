@@ -36,16 +36,16 @@ IsBytes-more (first ∷ bytes) byte is small (suc i) = IsBytes-more bytes byte (
 IsBytes-none : IsBytes []
 IsBytes-none i = omega arith
 
-abbrev done : Reading → Result Reading StreamFault
+abbrev pub done : Reading → Result Reading StreamFault
 done reading = Ok reading
 
-abbrev failed : StreamFault → Result Reading StreamFault
+abbrev pub failed : StreamFault → Result Reading StreamFault
 failed fault = Err fault
 
 done-is : (one other : Reading) → done one ≡ done other → one ≡ other
 done-is one other is = cc
 
-not-done : (fault : StreamFault) (reading : Reading) → failed fault ≡ done reading → ⊥
+pub not-done : (fault : StreamFault) (reading : Reading) → failed fault ≡ done reading → ⊥
 not-done fault reading is = cc
 
 -- what was settled: pending bytes were complete, or wait for more

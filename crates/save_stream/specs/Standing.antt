@@ -1,9 +1,9 @@
 -- Where a reader stands in a stream: the head and entries that spell what it has read.
-use Rattle.std.specs.Prelude.{◌≡◌, ℕ, ◌≤◌, ◌<◌, Bool, true, false, List, [], ◌++◌, length, Option, Some, None}
+use Rattle.std.specs.Prelude.{◌≡◌, ℕ, ◌≤◌, ◌<◌, Bool, true, false, List, [], ◌++◌, length, slice_index, Option, Some, None}
 use Rattle.std.specs.List.{flat_map, AllByRecursion}
 use Rattle.save_stream.specs.declared.entry.IndexEntry.{IndexEntry}
 use Rattle.save_stream.specs.declared.head.SetHead.{SetHead}
-use Rattle.save_stream.specs.Spelling.{max_entries, IsHead, Saved, IsSaved, Ascend, head_text, entry_text, end_text, index_from}
+use Rattle.save_stream.specs.Spelling.{max_entries, IsHead, Saved, IsSaved, Ascend, head_text, entry_text, end_text, index_from, StreamText}
 use Rattle.save_stream.specs.Reading.{Reading}
 
 -- what stands behind whole entries: the end, or bytes of an entry or an end that isn't complete
@@ -40,3 +40,11 @@ StandsAt (Some head) text reading = Behind text head reading.left reading.ended 
 pub record Stands (text : List ℕ) (reading : Reading) : Type 0 where
   pub read : reading.read ≡ length text
   pub at : StandsAt reading.head text reading
+
+-- each number is one of a byte
+abbrev pub AreBytes : List ℕ → Type 0
+AreBytes bytes = (i : ℕ) → slice_index bytes i < 256
+
+-- a text is a whole stream
+abbrev pub IsWhole : List ℕ → Type 0
+IsWhole text = (head : SetHead) × ((entries : List Saved) × StreamText text head entries)
