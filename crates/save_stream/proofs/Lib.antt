@@ -4,5 +4,8 @@ pub mod Lengths
 pub mod Names
 pub mod OneSpelling
 pub mod Sound
+pub mod Standing
+pub mod Steps
+pub mod Streams
 pub mod Taking
 pub mod Whole

@@ -26,7 +26,7 @@ passed-more count reading = placed reading (reading.read + 1 + count) (reading.r
 picks : {A : Type 0} (first second : Bool) (x y z : A) → first ≡ false → second ≡ true → cond first x (cond second y z) ≡ y
 picks first second x y z closed more = rw (closed, more) refl
 
-after-passed : (reading : Reading) (byte : ℕ) → reading.ended ≡ false → nat_lt 0 reading.left ≡ true → after_byte reading byte ≡ Ok (passed 1 reading)
+pub after-passed : (reading : Reading) (byte : ℕ) → reading.ended ≡ false → nat_lt 0 reading.left ≡ true → after_byte reading byte ≡ Ok (passed 1 reading)
 after-passed reading byte going more = picks reading.ended (nat_lt 0 reading.left) _ _ _ going more
 
 -- bytes of a file

@@ -54,7 +54,7 @@ pub record Settles {X : Type 0} (base : Reading) (first : ℕ) (parse : List ℕ
 unread : {A : Type 0} (ended some : Bool) (x y z : A) → ended ≡ false → some ≡ false → cond ended x (cond some y z) ≡ z
 unread ended some x y z first second = rw (first, second) refl
 
-next-byte : (reading : Reading) (byte : ℕ) → reading.ended ≡ false → reading.left ≡ 0 → after_byte reading byte ≡ settle (with_byte reading byte)
+pub next-byte : (reading : Reading) (byte : ℕ) → reading.ended ≡ false → reading.left ≡ 0 → after_byte reading byte ≡ settle (with_byte reading byte)
 next-byte reading byte going left = unread reading.ended (nat_lt 0 reading.left) _ _ _ going (le-ltb 0 reading.left (omega arith))
 
 settle-on : {X : Type 0} (base : Reading) (first : ℕ) (parse : List ℕ → Part X) (done : Reading → X → Reading) (is : Settles base first parse done)

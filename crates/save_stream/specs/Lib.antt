@@ -1,4 +1,5 @@
 pub mod Reading
 pub mod Spelling
+pub mod Standing
 pub mod Texts
 pub mod View

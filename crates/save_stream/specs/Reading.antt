@@ -270,11 +270,13 @@ with_end reading count = record reading { ended = true; pending = [] }
 abbrev pub begins_end : List ℕ → Bool
 begins_end bytes = slice_index bytes 0 == 0x45
 
--- the pending bytes are read as an entry or as the end
+-- the pending bytes are read as the end, where they begin one, and else as an entry
+abbrev pub settle_by : Bool → Reading → Result Reading StreamFault
+settle_by true reading = settled (with_end reading) reading (read_alone (end_at (length reading.entries) reading.pending))
+settle_by false reading = settled (with_entry reading) reading (read_alone (front_at (length reading.entries) (last_path reading.entries) reading.pending))
+
 abbrev pub settle_rest : Reading → Result Reading StreamFault
-settle_rest reading = if begins_end reading.pending
-    then settled (with_end reading) reading (read_alone (end_at (length reading.entries) reading.pending))
-    else settled (with_entry reading) reading (read_alone (front_at (length reading.entries) (last_path reading.entries) reading.pending))
+settle_rest reading = settle_by (begins_end reading.pending) reading
 
 abbrev pub settle_from : Option SetHead → Reading → Result Reading StreamFault
 settle_from None reading = settled (with_head reading) reading (read_alone (head_at reading.pending))

@@ -1,5 +1,5 @@
 -- The grammar of a stream on whole texts: what heads and entries may be, and how they are spelled.
-use Rattle.std.specs.Prelude.{◌≡◌, ◌↔◌, ℕ, ◌+◌, ◌≤◌, ◌<◌, ◌^◌, List, [], ◌∷◌, ◌++◌, length}
+use Rattle.std.specs.Prelude.{◌≡◌, ◌↔◌, ℕ, ◌+◌, ◌≤◌, ◌<◌, ◌^◌, List, [], ◌∷◌, ◌++◌, length, take, drop}
 use Rattle.std.specs.List.{flat_map, AllByRecursion}
 use Rattle.std.specs.Ordering.{nat_cmp}
 use Rattle.std.specs.Cmp.Lexicographic.{slice_cmp}
@@ -147,3 +147,15 @@ index_entry at entry = record {
 abbrev pub index_from : ℕ → List Saved → List IndexEntry
 index_from at [] = []
 index_from at (entry ∷ entries) = index_entry at entry ∷ index_from (at + length (entry_text entry)) entries
+
+-- a text is a whole stream, of this head and these entries
+abbrev pub StreamText : List ℕ → SetHead → List Saved → Type 0
+StreamText text head entries = IsStream head entries × (text ≡ stream_text head entries)
+
+-- the index of a stream
+abbrev pub index_of : SetHead → List Saved → List IndexEntry
+index_of head entries = index_from (length (head_text head)) entries
+
+-- the bytes of an entry's file, in the text of a stream
+abbrev pub file_bytes : List ℕ → IndexEntry → List ℕ
+file_bytes text entry = take entry.size (drop entry.place text)
