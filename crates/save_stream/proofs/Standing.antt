@@ -148,7 +148,8 @@ spells-more text head entries index pending byte is = record {
   count = is.count;
   index_is = is.index_is;
   parts = ap (λ (t : List ℕ). t ++ byte ∷ []) is.parts ∙ append_assoc (head_text head) (flat_map entry_text entries ++ pending) (byte ∷ [])
-    ∙ ap (λ (t : List ℕ). head_text head ++ t) (append_assoc (flat_map entry_text entries) pending (byte ∷ [])) }
+      ∙ ap (λ (t : List ℕ). head_text head ++ t) (append_assoc (flat_map entry_text entries) pending (byte ∷ []));
+}
 
 pub spells-end : (text : List ℕ) (head : SetHead) (entries : List Saved) (index : List IndexEntry) (pending : List ℕ)
     → Spells text head entries false index pending → pending ≡ end_text (length index) → Spells text head entries true index []
@@ -158,7 +159,8 @@ spells-end text head entries index pending is ends = record {
   count = is.count;
   index_is = is.index_is;
   parts = is.parts ∙ ap (λ (t : List ℕ). head_text head ++ (flat_map entry_text entries ++ t))
-    (ends ∙ ap end_text (ap (λ (l : List IndexEntry). length l) is.index_is ∙ length-index_from (length (head_text head)) entries)) }
+      (ends ∙ ap end_text (ap (λ (l : List IndexEntry). length l) is.index_is ∙ length-index_from (length (head_text head)) entries));
+}
 
 pub spells-entry : (text : List ℕ) (head : SetHead) (entries : List Saved) (index : List IndexEntry) (pending : List ℕ) (front : Front) (rest missing : List ℕ)
     → Spells text head entries false index pending → FrontIs (length index) (last_path index) pending front rest
@@ -183,12 +185,13 @@ spells-entry text head entries index pending front rest missing is fits pending-
       order = Ascend-append [] entries entry is.order (subst (λ (l : List ℕ). IsBelow l front.path) last fits.below);
       count = omega (arith, fits.room, count, length-append entries (entry ∷ []));
       index_is = ap (λ (l : List IndexEntry). l ++ entry_from (length text) front ∷ []) is.index_is
-        ∙ ap (λ (e : IndexEntry). index_from at entries ++ e ∷ []) indexed ∙ sym (index-append at entries entry);
+          ∙ ap (λ (e : IndexEntry). index_from at entries ++ e ∷ []) indexed ∙ sym (index-append at entries entry);
       parts = ap (λ (t : List ℕ). t ++ missing) is.parts
-        ∙ append_assoc (head_text head) (texts ++ pending) missing
-        ∙ ap (λ (t : List ℕ). head_text head ++ t)
-        (append_assoc texts pending missing
-        ∙ ap (λ (t : List ℕ). texts ++ (t ++ missing)) pending-is
-        ∙ ap (λ (t : List ℕ). texts ++ t) (sym entry-text ∙ sym (append-nil (entry_text entry)))
-        ∙ sym (flat_map-append entry_text entries (entry ∷ []))
-        ∙ sym (append-nil (flat_map entry_text (entries ++ entry ∷ [])))) }
+          ∙ append_assoc (head_text head) (texts ++ pending) missing
+          ∙ ap (λ (t : List ℕ). head_text head ++ t)
+          (append_assoc texts pending missing
+          ∙ ap (λ (t : List ℕ). texts ++ (t ++ missing)) pending-is
+          ∙ ap (λ (t : List ℕ). texts ++ t) (sym entry-text ∙ sym (append-nil (entry_text entry)))
+          ∙ sym (flat_map-append entry_text entries (entry ∷ []))
+          ∙ sym (append-nil (flat_map entry_text (entries ++ entry ∷ []))));
+    }
