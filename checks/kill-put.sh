@@ -23,9 +23,12 @@ for call in pwrite64 fsync; do
     for number in $(seq 1 40); do
         room=$work/room.$call.$number
         mkdir "$room"
-        strace -qq -o /dev/null -e trace=$call -e inject=$call:signal=KILL:when=$number \
-            "$program" "$room" put 1 <"$work/file" >/dev/null 2>&1
-        status=$?
+        # The shell tells of each kill on standard error, which is left out.
+        {
+            strace -qq -o /dev/null -e trace=$call -e inject=$call:signal=KILL:when=$number \
+                "$program" "$room" put 1 <"$work/file" >/dev/null
+            status=$?
+        } 2>/dev/null
         cart=$room/cart.001
         # A first byte L is a label, and a first byte F of block 1 is a file, which is then whole.
         label=$(head -c 1 "$cart" 2>/dev/null | tr -d '\0')
