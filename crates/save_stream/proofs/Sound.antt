@@ -1,9 +1,9 @@
 -- What is read is spelled so, each byte of it, and is allowed.
-use Rattle.std.proofs.Common.{◌≡◌, ◌↔◌, ℕ, zero, suc, ◌+◌, ◌≤◌, ◌<◌, ◌^◌, Bool, true, false, cond, eqb, nat_lt, nat_le, List, [], ◌∷◌, ◌++◌, length, drop, take, get_or, Option, Some, None, Result, Ok, Err, refl, sym, ap, subst, ◌∙◌, append_assoc, arith, inl, inr}
-use Rattle.std.specs.Prelude.{◌&&◌, not, All, slice_index, slice_get}
+use Rattle.std.proofs.Common.{◌≡◌, ◌↔◌, ℕ, zero, suc, ◌+◌, ◌≤◌, ◌<◌, ◌^◌, Bool, true, false, cond, eqb, nat_lt, nat_le, List, [], ◌∷◌, ◌++◌, length, drop, take, get_or, Option, Some, None, Ok, Err, refl, sym, ap, subst, ◌∙◌, append_assoc, arith, inl, inr}
+use Rattle.std.specs.Prelude.{◌&&◌, not, slice_index, slice_get}
 use Rattle.std.specs.Int.{w16, w64, from_be_bytes}
-use Rattle.std.specs.List.{list_all, AllPass}
-use Rattle.std.specs.Str.{IsUtf8, is_utf8}
+use Rattle.std.specs.List.{list_all}
+use Rattle.std.specs.Str.{is_utf8}
 use Rattle.std.specs.Ordering.{is_lt, nat_cmp}
 use Rattle.std.specs.Cmp.Lexicographic.{slice_cmp}
 use Rattle.std.specs.declared.cmp.Ordering.{Ordering}
@@ -11,7 +11,7 @@ use Rattle.std.specs.declared.cmp.Ordering.TheVariants.{Less, Equal, Greater}
 use Rattle.std.proofs.lemmas.Str.{IsUtf8-from_is_utf8}
 use Rattle.std.proofs.lemmas.Bool.{cases_lt, lt-ltb, le-ltb, ltb-true, leb-true, eqb-true, eqb-false, ne_eqb}
 use Rattle.std.proofs.lemmas.Nat.{be_bytes_2, be_bytes_8}
-use Rattle.std.proofs.lemmas.List.{length-append, length-take, length-drop, take-append-drop, get_or-drop, get_or-take, get_or_past}
+use Rattle.std.proofs.lemmas.List.{length-take, take-append-drop, get_or-drop, get_or-take, get_or_past}
 use Rattle.std.proofs.lemmas.List.Sums.{AllPass-from_list_all}
 use Rattle.byteorder.specs.Endian.{big_number, big_bytes, big_from}
 use Rattle.byteorder.specs.Numbers.{big_from-take, big_from-lt}
@@ -19,12 +19,10 @@ use Rattle.room_base.specs.Numbers.{max_moment}
 use Rattle.room_base.specs.Text.{HasLength, IsName, IsPrintable, IsPathText}
 use Rattle.save_stream.specs.declared.entry.EntryKind.{EntryKind}
 use Rattle.save_stream.specs.declared.entry.EntryKind.TheVariants as kinds
-use Rattle.save_stream.specs.declared.head.SetHead.{SetHead}
 use Rattle.save_stream.specs.declared.head_reading.HeadNumbers.{HeadNumbers}
-use Rattle.save_stream.specs.declared.stop.Stop.{Stop}
 use Rattle.save_stream.specs.declared.stop.Stop.TheVariants as stops
-use Rattle.save_stream.specs.Spelling.{max_entries, max_size, IsNameTo, IsHead, IsBelow, number_text, short_number_text, short_text, long_text, head_numbers, head_text, entry_front, end_text}
-use Rattle.save_stream.specs.Reading.{Part, ◌>>=◌, checked, byte_at, number_at, bytes_at, is_printable, is_name, text_at, mark_at, ssid_at, base_at, is_level, level_at, moment_at, numbers_at, names_at, head_from, head_at, kind_of, kind_among, kind_at, is_path, is_below, path_at, mtime_at, size_at, front_at, end_at, Front, HeadNames}
+use Rattle.save_stream.specs.Spelling.{max_entries, max_size, IsNameTo, IsHead, IsBelow, number_text, short_number_text, short_text, long_text, head_text, entry_front, end_text}
+use Rattle.save_stream.specs.Reading.{Part, ◌>>=◌, checked, byte_at, number_at, bytes_at, is_printable, is_name, text_at, mark_at, ssid_at, base_at, is_level, level_at, moment_at, numbers_at, names_at, head_at, kind_of, kind_among, kind_at, is_path, is_below, path_at, mtime_at, size_at, front_at, end_at, Front, HeadNames}
 use Rattle.save_stream.proofs.Again.{FitsKind}
 
 -- ---- bytes
@@ -157,9 +155,12 @@ text-takes least most bytes is =
     when-weaker (checked is_name start (bytes_at size start)) (λ text rest. (Takes start text rest × (length text ≡ size)) × (is_name text ≡ true)) _
     (checked-when is_name start (bytes_at size start) (λ text rest. Takes start text rest × (length text ≡ size)) (bytes-takes size start first.0.rest_fits))
     (λ text rest second.
-    let count = second.0.1 in
-    (subst (λ (n : ℕ). Takes bytes (n ∷ text) rest) (sym count) (Takes-then bytes (size ∷ []) start text rest first.0 second.0.0),
-    omega (arith, count, leb-true least size bounds.0), omega (arith, count, leb-true size most bounds.1), is_name-is text second.1)))
+    let count = second.0.1 in (
+      subst (λ (n : ℕ). Takes bytes (n ∷ text) rest) (sym count) (Takes-then bytes (size ∷ []) start text rest first.0 second.0.0),
+      omega (arith, count, leb-true least size bounds.0),
+      omega (arith, count, leb-true size most bounds.1),
+      is_name-is text second.1,
+    )))
 
 mark-takes : (mark : ℕ) (bytes : List ℕ) → IsBytes bytes → When (mark_at mark bytes) (λ byte rest. Takes bytes (mark ∷ []) rest)
 unfolding mark_at
@@ -276,10 +277,22 @@ head-takes bytes is =
     then-when (numbers_at bytes) _ _ _ (numbers-takes bytes is)
     (λ numbers after-numbers a. then-when (names_at after-numbers) _ _ _ (names-takes after-numbers a.0.rest_fits)
     (λ names rest b.
-    let both = Takes-then _ _ _ _ _ a.0 b.0 in
-    (subst (λ (text : List ℕ). Takes bytes text rest) (one_behind_other (numbers_text numbers) (short_text names.client) (short_text names.set) (short_text names.group) (short_text names.pool)) both,
-    record { ssid = a.1.ssid; base = a.1.base; level = a.1.level; full = a.1.full; saved = a.1.saved; browse = a.1.browse; retain = a.1.retain;
-      client = b.1.client; set = b.1.set; group = b.1.group; pool = b.1.pool })))
+    let both = Takes-then _ _ _ _ _ a.0 b.0 in (
+      subst (λ (text : List ℕ). Takes bytes text rest) (one_behind_other (numbers_text numbers) (short_text names.client) (short_text names.set) (short_text names.group) (short_text names.pool)) both,
+      record {
+        ssid = a.1.ssid;
+        base = a.1.base;
+        level = a.1.level;
+        full = a.1.full;
+        saved = a.1.saved;
+        browse = a.1.browse;
+        retain = a.1.retain;
+        client = b.1.client;
+        set = b.1.set;
+        group = b.1.group;
+        pool = b.1.pool;
+      },
+    )))
 
 -- ---- entries and the end
 
@@ -349,9 +362,12 @@ path-takes last bytes is =
     (checked-when fits start (bytes_at size start) (λ path rest. Takes start path rest × (length path ≡ size)) (bytes-takes size start first.0.rest_fits))
     (λ path rest second.
     let count = second.0.1 in
-    let tests = both-true (is_path path) (is_below last path) second.1 in
-    (subst (λ (n : ℕ). Takes bytes (short_number_text n ++ path) rest) (sym count) (Takes-then bytes (short_number_text size) start path rest first.0 second.0.0),
-    (omega (arith, count, ltb-true 0 size bounds.0), omega (arith, count, leb-true size 1024 bounds.1)), is_path-is path tests.0, is_below-is last path tests.1)))
+    let tests = both-true (is_path path) (is_below last path) second.1 in (
+      subst (λ (n : ℕ). Takes bytes (short_number_text n ++ path) rest) (sym count) (Takes-then bytes (short_number_text size) start path rest first.0 second.0.0),
+      (omega (arith, count, ltb-true 0 size bounds.0), omega (arith, count, leb-true size 1024 bounds.1)),
+      is_path-is path tests.0,
+      is_below-is last path tests.1,
+    )))
 
 -- an entry that begins these bytes, and is allowed
 pub record FrontIs (count : ℕ) (last bytes : List ℕ) (front : Front) (rest : List ℕ) : Type 0 where

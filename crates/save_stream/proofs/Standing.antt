@@ -1,24 +1,20 @@
 -- Each byte leaves a reader where its text says.
-use Rattle.std.proofs.Common.{◌≡◌, ℕ, zero, suc, ◌+◌, ◌-◌, ◌≤◌, ◌<◌, Bool, true, false, cond, nat_lt, List, [], ◌∷◌, ◌++◌, length, take, drop, get_or, Option, Some, None, Result, Ok, Err, refl, sym, ap, subst, ◌∙◌, append_assoc, arith}
+use Rattle.std.proofs.Common.{◌≡◌, ℕ, ◌+◌, ◌-◌, ◌≤◌, Bool, true, false, List, [], ◌∷◌, ◌++◌, length, take, Ok, Err, refl, sym, ap, subst, ◌∙◌, append_assoc, arith}
 use Rattle.std.specs.List.{flat_map, AllByRecursion}
 use Rattle.std.proofs.Math.Seq.{take-append-add}
-use Rattle.std.proofs.lemmas.Bool.{lt-ltb}
 use Rattle.std.proofs.lemmas.Grind.{flat_map-append}
-use Rattle.std.proofs.lemmas.List.{length-append, length-drop, append-nil, nil_from_length, take_at}
+use Rattle.std.proofs.lemmas.List.{length-append, append-nil, nil_from_length, take_at}
 use Rattle.save_stream.specs.declared.entry.EntryKind.{EntryKind}
 use Rattle.save_stream.specs.declared.entry.EntryKind.TheVariants as kinds
 use Rattle.save_stream.specs.declared.entry.IndexEntry.{IndexEntry}
-use Rattle.save_stream.specs.declared.fault.StreamFault.{StreamFault}
-use Rattle.save_stream.specs.declared.fault.StreamFault.TheVariants as faults
 use Rattle.save_stream.specs.declared.head.SetHead.{SetHead}
-use Rattle.save_stream.specs.declared.stop.Stop.{Stop}
 use Rattle.save_stream.specs.declared.stop.Stop.TheVariants as stops
-use Rattle.save_stream.specs.Spelling.{max_entries, IsHead, Saved, IsSaved, HasFields, Ascend, IsBelow, head_text, entry_front, entry_text, end_text, index_entry, index_from, place_of}
-use Rattle.save_stream.specs.Reading.{Part, Reading, Front, start, read_alone, settled, settle, settle_rest, begins_end, with_head, with_entry, with_end, entry_from, last_path, with_byte, passed, after_byte, then_reads, reads, head_at, front_at, end_at, kind_at, mark_at, numbers_at}
-use Rattle.save_stream.specs.Standing.{tail_text, Spells, Behind, Within, StandsAt, Stands}
+use Rattle.save_stream.specs.Spelling.{max_entries, IsHead, Saved, IsSaved, HasFields, Ascend, IsBelow, head_text, entry_front, entry_text, end_text, index_entry, index_from}
+use Rattle.save_stream.specs.Reading.{Part, Front, begins_end, entry_from, last_path, head_at, front_at, end_at, kind_at, mark_at}
+use Rattle.save_stream.specs.Standing.{Spells}
 use Rattle.save_stream.proofs.Again.{FitsKind, head-again, front-again, end-again}
 use Rattle.save_stream.proofs.Sound.{IsBytes, Takes, When, FrontIs, head-takes, front-takes, end-takes}
-use Rattle.save_stream.proofs.Whole.{last_path-append, length-index_from}
+use Rattle.save_stream.proofs.Whole.{length-index_from}
 
 -- ---- nothing stands behind what a last byte completes
 
@@ -148,7 +144,8 @@ spells-more text head entries index pending byte is = record {
   count = is.count;
   index_is = is.index_is;
   parts = ap (λ (t : List ℕ). t ++ byte ∷ []) is.parts ∙ append_assoc (head_text head) (flat_map entry_text entries ++ pending) (byte ∷ [])
-    ∙ ap (λ (t : List ℕ). head_text head ++ t) (append_assoc (flat_map entry_text entries) pending (byte ∷ [])) }
+      ∙ ap (λ (t : List ℕ). head_text head ++ t) (append_assoc (flat_map entry_text entries) pending (byte ∷ []));
+}
 
 pub spells-end : (text : List ℕ) (head : SetHead) (entries : List Saved) (index : List IndexEntry) (pending : List ℕ)
     → Spells text head entries false index pending → pending ≡ end_text (length index) → Spells text head entries true index []
@@ -158,7 +155,8 @@ spells-end text head entries index pending is ends = record {
   count = is.count;
   index_is = is.index_is;
   parts = is.parts ∙ ap (λ (t : List ℕ). head_text head ++ (flat_map entry_text entries ++ t))
-    (ends ∙ ap end_text (ap (λ (l : List IndexEntry). length l) is.index_is ∙ length-index_from (length (head_text head)) entries)) }
+      (ends ∙ ap end_text (ap (λ (l : List IndexEntry). length l) is.index_is ∙ length-index_from (length (head_text head)) entries));
+}
 
 pub spells-entry : (text : List ℕ) (head : SetHead) (entries : List Saved) (index : List IndexEntry) (pending : List ℕ) (front : Front) (rest missing : List ℕ)
     → Spells text head entries false index pending → FrontIs (length index) (last_path index) pending front rest
@@ -183,12 +181,13 @@ spells-entry text head entries index pending front rest missing is fits pending-
       order = Ascend-append [] entries entry is.order (subst (λ (l : List ℕ). IsBelow l front.path) last fits.below);
       count = omega (arith, fits.room, count, length-append entries (entry ∷ []));
       index_is = ap (λ (l : List IndexEntry). l ++ entry_from (length text) front ∷ []) is.index_is
-        ∙ ap (λ (e : IndexEntry). index_from at entries ++ e ∷ []) indexed ∙ sym (index-append at entries entry);
+          ∙ ap (λ (e : IndexEntry). index_from at entries ++ e ∷ []) indexed ∙ sym (index-append at entries entry);
       parts = ap (λ (t : List ℕ). t ++ missing) is.parts
-        ∙ append_assoc (head_text head) (texts ++ pending) missing
-        ∙ ap (λ (t : List ℕ). head_text head ++ t)
-        (append_assoc texts pending missing
-        ∙ ap (λ (t : List ℕ). texts ++ (t ++ missing)) pending-is
-        ∙ ap (λ (t : List ℕ). texts ++ t) (sym entry-text ∙ sym (append-nil (entry_text entry)))
-        ∙ sym (flat_map-append entry_text entries (entry ∷ []))
-        ∙ sym (append-nil (flat_map entry_text (entries ++ entry ∷ [])))) }
+          ∙ append_assoc (head_text head) (texts ++ pending) missing
+          ∙ ap (λ (t : List ℕ). head_text head ++ t)
+          (append_assoc texts pending missing
+          ∙ ap (λ (t : List ℕ). texts ++ (t ++ missing)) pending-is
+          ∙ ap (λ (t : List ℕ). texts ++ t) (sym entry-text ∙ sym (append-nil (entry_text entry)))
+          ∙ sym (flat_map-append entry_text entries (entry ∷ []))
+          ∙ sym (append-nil (flat_map entry_text (entries ++ entry ∷ []))));
+    }

@@ -1,17 +1,15 @@
 -- A reader that has read a text stands where the text says.
-use Rattle.std.proofs.Common.{◌≡◌, ℕ, zero, suc, ◌+◌, ◌-◌, ◌≤◌, ◌<◌, Bool, true, false, cond, List, [], ◌∷◌, ◌++◌, length, get_or, Option, Some, None, Result, Ok, Err, refl, sym, ap, subst, ◌∙◌, append_assoc, arith, inl, inr}
+use Rattle.std.proofs.Common.{◌≡◌, ℕ, zero, suc, ◌+◌, ◌≤◌, ◌<◌, Bool, true, false, List, [], ◌∷◌, ◌++◌, length, Option, Some, None, Result, Ok, Err, refl, sym, ap, subst, ◌∙◌, append_assoc, arith, inl, inr}
 use Rattle.std.specs.Prelude.{◌⊎◌}
 use Rattle.std.proofs.lemmas.Bool.{lt-ltb}
 use Rattle.std.proofs.lemmas.List.{length-append, append-nil, nil_from_length}
 use Rattle.save_stream.specs.declared.entry.IndexEntry.{IndexEntry}
 use Rattle.save_stream.specs.declared.fault.StreamFault.{StreamFault}
-use Rattle.save_stream.specs.declared.fault.StreamFault.TheVariants as faults
 use Rattle.save_stream.specs.declared.head.SetHead.{SetHead}
-use Rattle.save_stream.specs.declared.stop.Stop.{Stop}
 use Rattle.save_stream.specs.declared.stop.Stop.TheVariants as stops
 use Rattle.save_stream.specs.Spelling.{max_entries, head_text, Saved, entry_front, end_text}
 use Rattle.save_stream.specs.Reading.{Part, Reading, Front, start, read_alone, settled, settle, settle_by, begins_end, with_head, with_entry, with_end, entry_from, last_path, with_byte, passed, after_byte, then_reads, reads, head_at, front_at, end_at, mark_at, numbers_at}
-use Rattle.save_stream.specs.Standing.{Spells, Behind, Within, StandsAt, Stands}
+use Rattle.save_stream.specs.Standing.{Spells, Behind, Stands}
 use Rattle.save_stream.proofs.Sound.{IsBytes, FrontIs}
 use Rattle.save_stream.proofs.Standing.{Waits, WaitsIf, none-waits, end-waits, front-waits, end-whole, head-whole, front-whole, saved_of, spells-more, spells-end, spells-entry}
 use Rattle.save_stream.proofs.Taking.{after-passed}
@@ -69,8 +67,12 @@ head-spells : (text missing : List ℕ) (head : SetHead) (left : ℕ) (ended : B
     → length missing ≡ left → Spells (text ++ missing) head [] ended entries []
 head-spells text missing head left true entries is none going empty size = absurd cc
 head-spells text missing head left false entries is none going empty size = record {
-  each = tt; order = tt; count = omega arith; index_is = empty;
-  parts = ap (λ (t : List ℕ). t ++ missing) is ∙ ap (λ (t : List ℕ). head_text head ++ t) (nil_from_length missing (size ∙ none)) }
+  each = tt;
+  order = tt;
+  count = omega arith;
+  index_is = empty;
+  parts = ap (λ (t : List ℕ). t ++ missing) is ∙ ap (λ (t : List ℕ). head_text head ++ t) (nil_from_length missing (size ∙ none));
+}
 
 head-step : (text : List ℕ) (byte read left : ℕ) (ended : Bool) (entries : List IndexEntry) (pending : List ℕ) (next : Reading)
     → Holds text (within read left ended entries pending) → byte < 256 → after_byte (within read left ended entries pending) byte ≡ Ok next → Holds (text ++ byte ∷ []) next
@@ -91,14 +93,18 @@ head-step text byte read left ended entries pending next holds small is =
               at = record {
                 allowed = complete.1;
                 spelled = λ missing size. ([], head-spells (text ++ byte ∷ []) missing found.0 left ended entries (sym grown ∙ complete.0) at.none.0 at.going at.none.1 size);
-                whole = λ some. absurd (omega (arith, at.none.0)) } };
+                whole = λ some. absurd (omega (arith, at.none.0));
+              };
+            };
             bytes = IsBytes-none;
-            waits = λ _. none-waits entries }))
+            waits = λ _. none-waits entries;
+          }))
       | inr waiting ↦
           subst (λ (r : Reading). Holds (text ++ byte ∷ []) r) (sym waiting.1) (record {
             stands = record { read = longer text byte read holds.stands.read; at = record { bytes = grown; going = at.going; none = at.none } };
             bytes = bytes;
-            waits = waiting.0 })
+            waits = waiting.0;
+          })
     ]
 
 -- ---- behind the head
@@ -117,11 +123,14 @@ file-step text byte head read left entries pending holds =
         at = record {
           allowed = at.allowed;
           spelled = λ missing size.
-            let same = at.spelled (byte ∷ missing) (omega (arith, size)) in
-            (same.0, subst (λ (t : List ℕ). Spells t head same.0 false entries pending) (sym (append_assoc text (byte ∷ []) missing)) same.1);
-          whole = λ some. at.whole (omega arith) } };
+              let same = at.spelled (byte ∷ missing) (omega (arith, size)) in
+              (same.0, subst (λ (t : List ℕ). Spells t head same.0 false entries pending) (sym (append_assoc text (byte ∷ []) missing)) same.1);
+          whole = λ some. at.whole (omega arith);
+        };
+      };
       bytes = holds.bytes;
-      waits = holds.waits }
+      waits = holds.waits;
+    }
 
 -- what a text spells once no byte of a file is missing
 spells-now : (text : List ℕ) (byte : ℕ) (head : SetHead) (entries : List IndexEntry) (pending : List ℕ) → Behind text head 0 false entries pending
@@ -148,9 +157,12 @@ waiting-step text byte head read entries pending holds small waits =
         at = record {
           allowed = at.allowed;
           spelled = λ missing size. (now.0, with-none (text ++ byte ∷ []) missing head now.0 false entries (pending ++ byte ∷ []) size now.1);
-          whole = λ some. absurd (omega arith) } };
+          whole = λ some. absurd (omega arith);
+        };
+      };
       bytes = IsBytes-more pending byte holds.bytes small;
-      waits = λ _. waits }
+      waits = λ _. waits;
+    }
 
 end-step : (text : List ℕ) (byte : ℕ) (head : SetHead) (read : ℕ) (entries : List IndexEntry) (pending : List ℕ) (count : ℕ)
     → Holds text (behind head read 0 false entries pending) → pending ++ byte ∷ [] ≡ end_text (length entries)
@@ -165,9 +177,12 @@ end-step text byte head read entries pending count holds ends =
         at = record {
           allowed = at.allowed;
           spelled = λ missing size. (now.0, with-none (text ++ byte ∷ []) missing head now.0 true entries [] size ended);
-          whole = λ some. absurd (omega arith) } };
+          whole = λ some. absurd (omega arith);
+        };
+      };
       bytes = IsBytes-none;
-      waits = λ going. absurd cc }
+      waits = λ going. absurd cc;
+    }
 
 -- how many entries a text may have
 entries-fit : (text : List ℕ) (head : SetHead) (entries : List IndexEntry) (pending : List ℕ) → Behind text head 0 false entries pending → length entries ≤ max_entries
@@ -188,12 +203,17 @@ entry-step text byte head read entries pending front rest holds is fits =
         read = size;
         at = record {
           allowed = at.allowed;
-          spelled = λ missing left. (now.0 ++ saved_of front missing ∷ [],
+          spelled = λ missing left. (
+            now.0 ++ saved_of front missing ∷ [],
             subst (λ (n : ℕ). Spells ((text ++ byte ∷ []) ++ missing) head (now.0 ++ saved_of front missing ∷ []) false (entries ++ entry_from n front ∷ []) []) (sym size)
-            (spells-entry (text ++ byte ∷ []) head now.0 entries (pending ++ byte ∷ []) front rest missing now.1 fits is left));
-          whole = λ some. (refl, refl) } };
+                (spells-entry (text ++ byte ∷ []) head now.0 entries (pending ++ byte ∷ []) front rest missing now.1 fits is left),
+          );
+          whole = λ some. (refl, refl);
+        };
+      };
       bytes = IsBytes-none;
-      waits = λ _. none-waits (entries ++ entry_from (read + 1) front ∷ []) }
+      waits = λ _. none-waits (entries ++ entry_from (read + 1) front ∷ []);
+    }
 
 -- the last byte so far of an entry or an end
 rest-step : (test : Bool) (text : List ℕ) (byte : ℕ) (head : SetHead) (read : ℕ) (entries : List IndexEntry) (pending : List ℕ) (next : Reading)

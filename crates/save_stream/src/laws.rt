@@ -12,23 +12,20 @@ ghost use Rattle.save_stream.specs.Standing.{AreBytes, IsWhole, Stands};
 pub fn one_spelling()
     ensures { (head other : SetHead) (entries others : List Saved) (more rest : List ℕ) → IsStream head entries → IsStream other others
         → stream_text head entries ++ more ≡ stream_text other others ++ rest → (head ≡ other) × (entries ≡ others) × (more ≡ rest) }
-{
-}
+{}
 
 /// The index lists the entries in their order, and has the place of each file's bytes.
 pub fn index_has_the_files()
     ensures { (head : SetHead) (before after : List Saved) (entry : Saved) → IsStream head (before ++ entry ∷ after)
         → let at = length (head_text head) + length (flat_map entry_text before) in
-            (index_of head (before ++ entry ∷ after) ≡ index_of head before ++ index_entry at entry ∷ index_from (at + length (entry_text entry)) after)
-            × (file_bytes (stream_text head (before ++ entry ∷ after)) (index_entry at entry) ≡ entry.bytes) }
-{
-}
+        (index_of head (before ++ entry ∷ after) ≡ index_of head before ++ index_entry at entry ∷ index_from (at + length (entry_text entry)) after)
+        × (file_bytes (stream_text head (before ++ entry ∷ after)) (index_entry at entry) ≡ entry.bytes) }
+{}
 
 /// What is read doesn't depend on how a stream is cut into pieces.
 pub fn same_in_any_pieces()
     ensures { (reading : Reading) (pieces : List (List ℕ)) → reads_all reading pieces ≡ reads reading (flat_map (λ piece. piece) pieces) }
-{
-}
+{}
 
 /// What is spelled as the grammar says is read to its end, with its head, its index and its length,
 /// also by a reader that was given the head.
@@ -37,8 +34,7 @@ pub fn streams_are_read()
         → reads start text ≡ Ok (at_end head (length text) (index_of head entries)) }
     ensures after { (head : SetHead) (rest : List ℕ) → IsHead head
         → reads start (head_text head ++ rest) ≡ reads (behind_head (length (head_text head)) head) rest }
-{
-}
+{}
 
 /// What is read so far is spelled by its head, its entries and what isn't complete yet, and all of
 /// that is allowed. What is read to an end is a whole stream.
@@ -46,11 +42,9 @@ pub fn what_is_read_is_spelled()
     ensures standing { (text : List ℕ) (reading : Reading) → AreBytes text → reads start text ≡ Ok reading → Stands text reading }
     ensures whole { (text : List ℕ) (reading : Reading) → AreBytes text → length text ≤ max_size → reads start text ≡ Ok reading
         → reading.ended ≡ true → IsWhole text }
-{
-}
+{}
 
 /// Bytes with a fault are the beginning of no stream.
 pub fn faults_begin_no_stream()
     ensures { (text more : List ℕ) (fault : StreamFault) → reads start text ≡ Err fault → ¬ (IsWhole (text ++ more)) }
-{
-}
+{}
