@@ -1,24 +1,20 @@
 -- Each byte leaves a reader where its text says.
-use Rattle.std.proofs.Common.{◌≡◌, ℕ, zero, suc, ◌+◌, ◌-◌, ◌≤◌, ◌<◌, Bool, true, false, cond, nat_lt, List, [], ◌∷◌, ◌++◌, length, take, drop, get_or, Option, Some, None, Result, Ok, Err, refl, sym, ap, subst, ◌∙◌, append_assoc, arith}
+use Rattle.std.proofs.Common.{◌≡◌, ℕ, ◌+◌, ◌-◌, ◌≤◌, Bool, true, false, List, [], ◌∷◌, ◌++◌, length, take, Ok, Err, refl, sym, ap, subst, ◌∙◌, append_assoc, arith}
 use Rattle.std.specs.List.{flat_map, AllByRecursion}
 use Rattle.std.proofs.Math.Seq.{take-append-add}
-use Rattle.std.proofs.lemmas.Bool.{lt-ltb}
 use Rattle.std.proofs.lemmas.Grind.{flat_map-append}
-use Rattle.std.proofs.lemmas.List.{length-append, length-drop, append-nil, nil_from_length, take_at}
+use Rattle.std.proofs.lemmas.List.{length-append, append-nil, nil_from_length, take_at}
 use Rattle.save_stream.specs.declared.entry.EntryKind.{EntryKind}
 use Rattle.save_stream.specs.declared.entry.EntryKind.TheVariants as kinds
 use Rattle.save_stream.specs.declared.entry.IndexEntry.{IndexEntry}
-use Rattle.save_stream.specs.declared.fault.StreamFault.{StreamFault}
-use Rattle.save_stream.specs.declared.fault.StreamFault.TheVariants as faults
 use Rattle.save_stream.specs.declared.head.SetHead.{SetHead}
-use Rattle.save_stream.specs.declared.stop.Stop.{Stop}
 use Rattle.save_stream.specs.declared.stop.Stop.TheVariants as stops
-use Rattle.save_stream.specs.Spelling.{max_entries, IsHead, Saved, IsSaved, HasFields, Ascend, IsBelow, head_text, entry_front, entry_text, end_text, index_entry, index_from, place_of}
-use Rattle.save_stream.specs.Reading.{Part, Reading, Front, start, read_alone, settled, settle, settle_rest, begins_end, with_head, with_entry, with_end, entry_from, last_path, with_byte, passed, after_byte, then_reads, reads, head_at, front_at, end_at, kind_at, mark_at, numbers_at}
-use Rattle.save_stream.specs.Standing.{tail_text, Spells, Behind, Within, StandsAt, Stands}
+use Rattle.save_stream.specs.Spelling.{max_entries, IsHead, Saved, IsSaved, HasFields, Ascend, IsBelow, head_text, entry_front, entry_text, end_text, index_entry, index_from}
+use Rattle.save_stream.specs.Reading.{Part, Front, begins_end, entry_from, last_path, head_at, front_at, end_at, kind_at, mark_at}
+use Rattle.save_stream.specs.Standing.{Spells}
 use Rattle.save_stream.proofs.Again.{FitsKind, head-again, front-again, end-again}
 use Rattle.save_stream.proofs.Sound.{IsBytes, Takes, When, FrontIs, head-takes, front-takes, end-takes}
-use Rattle.save_stream.proofs.Whole.{last_path-append, length-index_from}
+use Rattle.save_stream.proofs.Whole.{length-index_from}
 
 -- ---- nothing stands behind what a last byte completes
 

@@ -1,5 +1,5 @@
 -- The laws of streams.
-use Rattle.std.proofs.Common.{◌≡◌, ℕ, zero, suc, ◌+◌, ◌≤◌, ◌<◌, Bool, true, false, List, [], ◌∷◌, ◌++◌, length, take, drop, Option, Some, None, Result, Ok, Err, refl, sym, ap, subst, ◌∙◌, append_assoc, arith}
+use Rattle.std.proofs.Common.{◌≡◌, ℕ, zero, suc, ◌+◌, ◌≤◌, Bool, true, false, List, [], ◌∷◌, ◌++◌, length, take, drop, Option, Some, None, Result, Ok, Err, refl, sym, ap, subst, ◌∙◌, append_assoc, arith}
 use Rattle.std.specs.List.{flat_map, AllByRecursion}
 use Rattle.std.proofs.lemmas.Grind.{flat_map-append}
 use Rattle.std.proofs.lemmas.List.{length-append, append-nil, take_at, drop_at}
@@ -8,11 +8,11 @@ use Rattle.save_stream.specs.declared.entry.EntryKind.TheVariants as kinds
 use Rattle.save_stream.specs.declared.entry.IndexEntry.{IndexEntry}
 use Rattle.save_stream.specs.declared.fault.StreamFault.{StreamFault}
 use Rattle.save_stream.specs.declared.head.SetHead.{SetHead}
-use Rattle.save_stream.specs.Spelling.{Saved, IsSaved, HasFields, IsStream, StreamText, max_size, head_text, entry_front, entry_text, end_text, body_text, stream_text, index_entry, index_from, index_of, place_of, file_bytes}
+use Rattle.save_stream.specs.Spelling.{Saved, IsSaved, HasFields, IsStream, StreamText, max_size, head_text, entry_front, entry_text, end_text, stream_text, index_entry, index_from, index_of, place_of, file_bytes}
 use Rattle.save_stream.specs.Reading.{Reading, at_end, start, then_reads, reads}
-use Rattle.save_stream.specs.Standing.{Spells, Behind, Within, StandsAt, Stands, AreBytes, IsWhole}
+use Rattle.save_stream.specs.Standing.{Behind, StandsAt, AreBytes, IsWhole}
 use Rattle.save_stream.proofs.OneSpelling.{reads-append, reads-whole}
-use Rattle.save_stream.proofs.Steps.{done, failed, not-done, reads-stand}
+use Rattle.save_stream.proofs.Steps.{not-done, reads-stand}
 
 true-not-false : true ≡ false → ⊥
 true-not-false is = cc
