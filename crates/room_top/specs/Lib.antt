@@ -1,3 +1,4 @@
+pub mod Numbers
 pub mod Put
 pub mod Raw
 pub mod Run

@@ -1,3 +1,6 @@
+ghost use Rattle.std.specs.Prelude.{◌≡◌};
+ghost use Rattle.room_top.specs.Numbers.{exit_number};
+
 use room_base::{Items, Refusal};
 
 /// How the program ended. Each has a number, which is the program's exit status.
@@ -21,7 +24,9 @@ pub enum Status {
 
 impl Status {
     /// The exit status of the program.
-    pub fn number(&self) -> u8 {
+    pub fn number(&self) -> u8
+        ensures { result ≡ exit_number self.now }
+    {
         match self {
             Status::Done => 0,
             Status::Usage { .. } => 2,
