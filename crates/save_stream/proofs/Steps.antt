@@ -7,8 +7,8 @@ use Rattle.save_stream.specs.declared.entry.IndexEntry.{IndexEntry}
 use Rattle.save_stream.specs.declared.fault.StreamFault.{StreamFault}
 use Rattle.save_stream.specs.declared.head.SetHead.{SetHead}
 use Rattle.save_stream.specs.declared.stop.Stop.TheVariants as stops
-use Rattle.save_stream.specs.Spelling.{max_entries, head_text, Saved, entry_front, end_text}
-use Rattle.save_stream.specs.Reading.{Part, Reading, Front, start, read_alone, settled, settle, settle_by, begins_end, with_head, with_entry, with_end, entry_from, last_path, with_byte, passed, after_byte, then_reads, reads, head_at, front_at, end_at, mark_at, numbers_at}
+use Rattle.save_stream.specs.Spelling.{IsHead, max_entries, head_text, Saved, entry_front, end_text}
+use Rattle.save_stream.specs.Reading.{Part, Reading, Front, behind_head, start, read_alone, settled, settle, settle_by, begins_end, with_head, with_entry, with_end, entry_from, last_path, with_byte, passed, after_byte, then_reads, reads, head_at, front_at, end_at, mark_at, numbers_at}
 use Rattle.save_stream.specs.Standing.{Spells, Behind, Stands}
 use Rattle.save_stream.proofs.Sound.{IsBytes, FrontIs}
 use Rattle.save_stream.proofs.Standing.{Waits, WaitsIf, none-waits, end-waits, front-waits, end-whole, head-whole, front-whole, saved_of, spells-more, spells-end, spells-entry}
@@ -282,3 +282,21 @@ start-holds = record { stands = record { read = refl; at = record { bytes = refl
 
 pub reads-stand : (text : List ℕ) (reading : Reading) → IsBytes text → reads start text ≡ Ok reading → Stands text reading
 reads-stand text reading fit is = (reads-holds text [] start reading start-holds fit is).stands
+
+head-holds : (head : SetHead) → IsHead head → Holds (head_text head) (behind_head (length (head_text head)) head)
+head-holds head is = record {
+  stands = record {
+    read = refl;
+    at = record {
+      allowed = is;
+      spelled = λ missing size. ([], head-spells (head_text head) missing head 0 false [] refl refl refl refl size);
+      whole = λ some. absurd (omega arith);
+    };
+  };
+  bytes = IsBytes-none;
+  waits = λ _. none-waits [];
+}
+
+pub body-stands : (head : SetHead) (body : List ℕ) (reading : Reading) → IsHead head → IsBytes body → reads (behind_head (length (head_text head)) head) body ≡ Ok reading
+    → Stands (head_text head ++ body) reading
+body-stands head body reading allowed fit is = (reads-holds body (head_text head) (behind_head (length (head_text head)) head) reading (head-holds head allowed) fit is).stands

@@ -10,9 +10,9 @@ use Rattle.save_stream.specs.declared.fault.StreamFault.{StreamFault}
 use Rattle.save_stream.specs.declared.head.SetHead.{SetHead}
 use Rattle.save_stream.specs.Spelling.{Saved, IsSaved, HasFields, IsStream, StreamText, max_size, head_text, entry_front, entry_text, end_text, stream_text, index_entry, index_from, index_of, place_of, file_bytes}
 use Rattle.save_stream.specs.Reading.{Reading, at_end, start, then_reads, reads}
-use Rattle.save_stream.specs.Standing.{Behind, StandsAt, AreBytes, IsWhole}
+use Rattle.save_stream.specs.Standing.{Behind, StandsAt, Stands, IsWhole}
 use Rattle.save_stream.proofs.OneSpelling.{reads-append, reads-whole}
-use Rattle.save_stream.proofs.Steps.{not-done, reads-stand}
+use Rattle.save_stream.proofs.Steps.{not-done}
 
 true-not-false : true ≡ false → ⊥
 true-not-false is = cc
@@ -88,6 +88,6 @@ ended-is text None read left ended index pending size at is = absurd (true-not-f
 ended-is text (Some head) read left false index pending size at is = absurd (true-not-false (sym is))
 ended-is text (Some head) read left true index pending size at is = ended-whole text head left index pending size at
 
-pub ended-is-whole : (text : List ℕ) (reading : Reading) → AreBytes text → length text ≤ max_size → reads start text ≡ Ok reading → reading.ended ≡ true → IsWhole text
-ended-is-whole text reading bytes size is ended =
-    ended-is text reading.head reading.read reading.left reading.ended reading.entries reading.pending size (reads-stand text reading bytes is).at ended
+pub ended-is-whole : (text : List ℕ) (reading : Reading) → Stands text reading → reading.ended ≡ true → length text ≤ max_size → IsWhole text
+ended-is-whole text reading stands ended size =
+    ended-is text reading.head reading.read reading.left reading.ended reading.entries reading.pending size stands.at ended

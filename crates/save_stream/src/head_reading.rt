@@ -6,8 +6,9 @@ ghost use Rattle.save_stream.specs.Texts.{names_of};
 
 use crate::encode::HEAD_MARK;
 use crate::field::{allow, byte_of, mark_of, text_of, u64_of};
+use crate::level::MAX_RANK;
 use crate::stop::Stop;
-use crate::{Level, MAX_RANK, SetHead};
+use crate::{Level, SetHead};
 use room_base::{MAX_MOMENT, Memory, Moment, Name, Ssid};
 use std::alloc::Global;
 

@@ -37,11 +37,16 @@ pub fn streams_are_read()
 {}
 
 /// What is read so far is spelled by its head, its entries and what isn't complete yet, and all of
-/// that is allowed. What is read to an end is a whole stream.
+/// that is allowed.
 pub fn what_is_read_is_spelled()
-    ensures standing { (text : List ℕ) (reading : Reading) → AreBytes text → reads start text ≡ Ok reading → Stands text reading }
-    ensures whole { (text : List ℕ) (reading : Reading) → AreBytes text → length text ≤ max_size → reads start text ≡ Ok reading
-        → reading.ended ≡ true → IsWhole text }
+    ensures from_start { (text : List ℕ) (reading : Reading) → AreBytes text → reads start text ≡ Ok reading → Stands text reading }
+    ensures from_head { (head : SetHead) (body : List ℕ) (reading : Reading) → IsHead head → AreBytes body
+        → reads (behind_head (length (head_text head)) head) body ≡ Ok reading → Stands (head_text head ++ body) reading }
+{}
+
+/// What is read to an end is a whole stream.
+pub fn ended_streams_are_whole()
+    ensures { (text : List ℕ) (reading : Reading) → Stands text reading → reading.ended ≡ true → length text ≤ max_size → IsWhole text }
 {}
 
 /// Bytes with a fault are the beginning of no stream.

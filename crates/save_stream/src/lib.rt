@@ -21,11 +21,10 @@ pub use entry::{EntryKind, IndexEntry, MAX_ENTRIES, MAX_SIZE};
 pub use fault::StreamFault;
 pub use head::SetHead;
 pub use laws::{
-    faults_begin_no_stream, index_has_the_files, one_spelling, same_in_any_pieces,
-    streams_are_read, what_is_read_is_spelled,
+    ended_streams_are_whole, faults_begin_no_stream, index_has_the_files, one_spelling,
+    same_in_any_pieces, streams_are_read, what_is_read_is_spelled,
 };
 pub use level::Level;
-use level::MAX_RANK;
 pub use reader::StreamReader;
 
 #[cfg(test)]

@@ -208,6 +208,7 @@ fn entry_from(alloc: Global, read: u64, front: &EntryFront) -> Result<IndexEntry
 }
 
 // What it means that the bytes before byte `read` weren't read to the end of a head, an entry or an end.
+// A field that isn't allowed begins among these bytes, so the difference is never cut off at 0.
 fn stopped(stop: Stop, read: u64) -> Result<(), StreamFault>
     ensures { Stopped stop read result }
 {
