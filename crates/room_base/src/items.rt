@@ -54,7 +54,9 @@ impl<T> Items<T> {
     }
 
     /// The allocator that the list was made with.
-    pub fn allocator(&self) -> Global {
+    pub fn allocator(&self) -> Global
+        ensures { (other : Global) → result ≡ other }
+    {
         *self.items.allocator()
     }
 }

@@ -20,6 +20,7 @@ mod sink;
 mod source;
 mod std_sink;
 mod std_source;
+mod text;
 
 pub use calls::{CallCount, risen_count};
 pub use clock::Clock;
@@ -36,6 +37,7 @@ pub use sink::{Sink, write_all};
 pub use source::Source;
 pub use std_sink::StdSink;
 pub use std_source::StdSource;
+pub use text::{MAX_PATH, name_text, path_text};
 
 #[cfg(test)]
 mod tests;

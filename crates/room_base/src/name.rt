@@ -1,14 +1,12 @@
-ghost use Rattle.std.specs.Prelude.{◌≡◌, ◌↔◌, [], All, IfOk, IsTrue};
+ghost use Rattle.std.specs.Prelude.{◌≡◌, [], IfOk};
 ghost use Rattle.std.specs.Str.{IsUtf8};
-ghost use Rattle.room_base.specs.Text.{Reads, IsName, HasLength, IsPathText, IsPrintable};
+ghost use Rattle.room_base.specs.Text.{Reads, IsName, HasLength, IsPathText};
 
 use crate::Memory;
+use crate::text::{MAX_PATH, name_text, path_text};
 use std::alloc::{AllocError, Global};
 use std::marker::Model;
 use thiserror::Error;
-
-/// The longest path, in bytes.
-const MAX_PATH: usize = 1024;
 
 /// Why bytes are no name or no path.
 #[derive(Clone, Copy, Debug, PartialEq, Eq, Error)]
@@ -56,15 +54,12 @@ impl Name {
         if bytes.is_empty() || bytes.len() > most as usize {
             return Err(NameFault::Length);
         }
-        let Ok(text) = str::from_utf8(bytes) else {
-            return Err(NameFault::NotText);
-        };
-        if !is_free_of_control(bytes) {
-            return Err(NameFault::NotText);
+        match name_text(bytes) {
+            Some(text) => Ok(Name {
+                text: String::from_str(alloc, text)?,
+            }),
+            None => Err(NameFault::NotText),
         }
-        Ok(Name {
-            text: String::from_str(alloc, text)?,
-        })
     }
 
     /// Reads a path: a text of 1 to 1,024 bytes that begins with `/`.
@@ -74,15 +69,12 @@ impl Name {
         if bytes.is_empty() || bytes.len() > MAX_PATH {
             return Err(NameFault::Length);
         }
-        let Ok(text) = str::from_utf8(bytes) else {
-            return Err(NameFault::NotText);
-        };
-        if bytes[0] != b'/' {
-            return Err(NameFault::NotText);
+        match path_text(bytes) {
+            Some(text) => Ok(Name {
+                text: String::from_str(alloc, text)?,
+            }),
+            None => Err(NameFault::NotText),
         }
-        Ok(Name {
-            text: String::from_str(alloc, text)?,
-        })
     }
 
     /// A name of this text, whatever it is.
@@ -137,11 +129,4 @@ impl PartialEq for Name {
     fn eq(&self, other: &Name) -> bool {
         self.as_str() == other.as_str()
     }
-}
-
-// No byte is a control character of ASCII.
-fn is_free_of_control(bytes: &[u8]) -> bool
-    ensures { IsTrue result ↔ All IsPrintable bytes.now }
-{
-    bytes.iter().all(|byte| *byte >= 0x20 && *byte != 0x7F)
 }

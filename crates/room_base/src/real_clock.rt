@@ -1,4 +1,4 @@
-ghost use Rattle.std.specs.Prelude.{false, []};
+ghost use Rattle.std.specs.Prelude.{◌≡◌, false, []};
 
 use crate::calls::risen_count;
 use crate::{Clock, Failed, Moment};
@@ -13,7 +13,9 @@ pub struct RealClock<R: rt::Clock> {
 }
 
 impl<R: rt::Clock> RealClock<R> {
-    pub fn new(system: R) -> RealClock<R> {
+    pub fn new(system: R) -> RealClock<R>
+        ensures { result ≡ record { system = system; faults = 0 } }
+    {
         RealClock { system, faults: 0 }
     }
 }

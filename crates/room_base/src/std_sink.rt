@@ -1,4 +1,4 @@
-ghost use Rattle.std.specs.Prelude.{◌≤◌, ◌<◌, false, [], ⊤, length, IfOk};
+ghost use Rattle.std.specs.Prelude.{◌≡◌, ◌≤◌, ◌<◌, false, [], ⊤, length, IfOk};
 
 use crate::calls::risen_count;
 use crate::{Failed, Sink};
@@ -16,7 +16,9 @@ pub struct StdSink<W: Write> {
 }
 
 impl<W: Write> StdSink<W> {
-    pub fn new(writer: W) -> StdSink<W> {
+    pub fn new(writer: W) -> StdSink<W>
+        ensures { result ≡ record { writer = writer; faults = 0 } }
+    {
         StdSink { writer, faults: 0 }
     }
 }

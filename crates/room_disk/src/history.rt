@@ -117,7 +117,9 @@ impl History {
         }
     }
 
-    pub fn allocator(&self) -> Global {
+    pub fn allocator(&self) -> Global
+        ensures { (other : Global) → result ≡ other }
+    {
         self.alloc
     }
 }
