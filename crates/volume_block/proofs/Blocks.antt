@@ -100,7 +100,7 @@ has_fields label = refl
 same_fields : (v w c d a b m n l k : ℕ) (p q : List ℕ) → v ≡ w → c ≡ d → a ≡ b → m ≡ n → l ≡ k → p ≡ q → of_fields v c a m l p ≡ of_fields w d b n k q
 same_fields v w c d a b m n l k p q volid cart capacity made count pool = cc
 
-equal_labels : (one other : Label) → one.volid.0 ≡ other.volid.0 → one.cart.0 ≡ other.cart.0 → one.capacity ≡ other.capacity
+pub equal_labels : (one other : Label) → one.volid.0 ≡ other.volid.0 → one.cart.0 ≡ other.cart.0 → one.capacity ≡ other.capacity
     → one.made.0 ≡ other.made.0 → one.pool_length ≡ other.pool_length → one.pool ≡ other.pool → one ≡ other
 equal_labels one other volid-is cart-is capacity-is made-is length-is pool-is =
     sym (has_fields one) ∙ same_fields _ _ _ _ _ _ _ _ _ _ _ _ volid-is cart-is capacity-is made-is length-is pool-is ∙ has_fields other

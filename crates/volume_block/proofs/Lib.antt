@@ -1,8 +1,10 @@
 pub mod Blocks
+pub mod Deciding
 pub mod Finding
 mod Heads
 mod Labels
 pub mod Lengths
+pub mod OneBlock
 pub mod Parts
 pub mod Spelled
 mod Splits

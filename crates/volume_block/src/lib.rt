@@ -7,6 +7,7 @@ mod chunks;
 mod decode;
 mod encode;
 mod label;
+mod laws;
 mod layout;
 mod payload;
 mod sealing;
@@ -16,6 +17,7 @@ pub use chunks::next_chunk;
 pub use decode::{decode_block, decode_label};
 pub use encode::{encode_label, encode_mark, seal_data, write_chunk_head};
 pub use label::{Label, MAX_CAPACITY, MAX_CART, MIN_CAPACITY};
+pub use laws::{one_block, one_list_of_chunks};
 pub use layout::{CHUNK_HEAD_SIZE, PAYLOAD_START};
 
 #[cfg(test)]

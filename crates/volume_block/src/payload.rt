@@ -1,7 +1,6 @@
 //! Reads the payloads of labels and marks.
 
-ghost use Rattle.std.specs.Prelude.{◌≡◌, ◌≤◌, ◌-◌, ◌++◌, ◌↔◌, ℕ, length, replicate, All, IsTrue, MatchOption};
-ghost use Rattle.room_base.specs.Text.{IsName, IsPrintable};
+ghost use Rattle.std.specs.Prelude.{◌≡◌, ◌≤◌, ◌-◌, ◌++◌, ◌↔◌, ℕ, length, replicate, IsTrue, MatchOption};
 ghost use Rattle.volume_block.specs.Valid.{HasRanges};
 ghost use Rattle.volume_block.specs.Why.{IsCountIn, IsLabelIn, FitsPool};
 
@@ -9,7 +8,7 @@ use crate::block::MAX_FILE_BLOCKS;
 use crate::label::{Label, MAX_CAPACITY, MAX_CART, MIN_CAPACITY};
 use crate::layout::{LABEL_FIELDS_SIZE, MARK_USED};
 use byteorder::{BigEndian, ByteOrder};
-use room_base::{Cart, MAX_MOMENT, Moment, Volid};
+use room_base::{Cart, MAX_MOMENT, Moment, Volid, name_text};
 
 /// How many data blocks a mark with this payload counts.
 pub(crate) fn mark_count(payload: &[u8]) -> Option<u32>
@@ -73,17 +72,5 @@ fn has_ranges(label: &Label) -> bool
         && (MIN_CAPACITY..=MAX_CAPACITY).contains(&label.capacity)
         && label.made <= MAX_MOMENT
         && label.pool_length >= 1
-        && is_name(name)
-}
-
-fn is_name(bytes: &[u8]) -> bool
-    ensures { IsTrue result ↔ IsName bytes.now }
-{
-    str::from_utf8(bytes).is_ok() && is_printable(bytes)
-}
-
-fn is_printable(bytes: &[u8]) -> bool
-    ensures { IsTrue result ↔ All IsPrintable bytes.now }
-{
-    bytes.iter().all(|byte| *byte >= 0x20 && *byte != 0x7F)
+        && name_text(name).is_some()
 }

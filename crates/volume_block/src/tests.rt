@@ -162,3 +162,51 @@ fn chunks(rt: HostRuntime) {
     };
     assert_eq!(rt; two_chunks(&block), (Some(first), None));
 }
+
+// What may be named where one bit of this byte of `abc`'s data block is another: `F` for `D` is another
+// kind that is allowed, and a length may be too large, or tell too few zeros, or too many.
+fn may_be_named(place: usize, bit: u8, why: Reason) -> bool {
+    match place {
+        0 if bit == 1 => why == Reason::Digest,
+        0 => why == Reason::Kind,
+        1..=3 => why == Reason::Form,
+        4..=7 => why == Reason::Length || why == Reason::Digest,
+        8..=15 => why == Reason::Volid,
+        16..=23 => why == Reason::Number,
+        24..=82 => why == Reason::Digest,
+        _ => why == Reason::Length,
+    }
+}
+
+fn refuses_a_flip(block: &mut [u8; BLOCK_SIZE], place: usize, bit: u8) -> bool
+    requires place { place < 4096 }
+    requires bit { bit < 8 }
+{
+    block[place] ^= 1 << bit;
+    let decoded = decode_block(block, RAW_VOLID, 2);
+    block[place] ^= 1 << bit;
+    match decoded {
+        Ok(_) => false,
+        Err(bad) => may_be_named(place, bit, bad.why),
+    }
+}
+
+fn refuses_flips_at(block: &mut [u8; BLOCK_SIZE], place: usize) -> bool
+    requires { place < 4096 }
+{
+    let mut refused = true;
+    for bit in 0..8 {
+        refused = refuses_a_flip(block, place, bit) && refused;
+    }
+    refused
+}
+
+#[test]
+fn every_flipped_bit_is_refused(rt: HostRuntime) {
+    let mut block = [0u8; BLOCK_SIZE];
+    put_abc(&mut block[PAYLOAD_START..]);
+    seal_data(RAW_VOLID, 2, 27, &mut block);
+    for place in 0..BLOCK_SIZE {
+        assert!(rt; refuses_flips_at(&mut block, place));
+    }
+}
