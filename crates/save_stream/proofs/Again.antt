@@ -19,7 +19,7 @@ use Rattle.save_stream.specs.Reading.{Part, ◌>>=◌, checked, number_at, bytes
 
 -- ---- fields
 
-sized-again : (size : ℕ) (text rest : List ℕ) (number : ℕ) → length text ≡ size → big_number size (text ++ rest) ≡ number
+pub sized-again : (size : ℕ) (text rest : List ℕ) (number : ℕ) → length text ≡ size → big_number size (text ++ rest) ≡ number
     → number_at size (text ++ rest) ≡ Ok (number, rest)
 unfolding number_at
 sized-again size text rest number is back =
@@ -50,7 +50,7 @@ then-again : {X Y : Type 0} (part : Part X) (x : X) (rest : List ℕ) (next : X 
     → (part >>= next) ≡ end
 then-again {X = X} part x rest next end first second = ap (λ (p : Part X). p >>= next) first ∙ second
 
-both : (one other : Bool) → one ≡ true → other ≡ true → one && other ≡ true
+pub both : (one other : Bool) → one ≡ true → other ≡ true → one && other ≡ true
 both one other first second = rw (first, second) refl
 
 is_printable-again : (byte : ℕ) → IsPrintable byte → is_printable byte ≡ true
@@ -83,7 +83,7 @@ base-again : (ssid base : ℕ) (rest : List ℕ) → base < ssid → ssid < 2 ^ 
 unfolding base_at
 base-again ssid base rest below fits = allowed-again _ _ _ base rest (number-again base rest (omega arith)) (lt-ltb base ssid below)
 
-is_level-again : (base level : ℕ) → level ≤ 10 → (base ≡ 0) ↔ (level ≡ 0) → is_level base level ≡ true
+pub is_level-again : (base level : ℕ) → level ≤ 10 → (base ≡ 0) ↔ (level ≡ 0) → is_level base level ≡ true
 is_level-again zero zero most full = refl
 is_level-again zero (suc level) most full = absurd (omega (arith, full.0 refl))
 is_level-again (suc base) zero most full = absurd (omega (arith, full.1 refl))
@@ -158,11 +158,11 @@ mark_of kinds.File = 0x46
 mark_of kinds.Folder = 0x44
 mark_of kinds.Gone = 0x47
 
-is_path-again : (text : List ℕ) → IsPathText text → is_path text ≡ true
+pub is_path-again : (text : List ℕ) → IsPathText text → is_path text ≡ true
 unfolding is_path
 is_path-again text is = both _ _ (is_utf8-from_IsUtf8 text is.0) (eq-eqb _ 0x2F (first-is text 0x2F is.1))
 
-is_below-again : (one other : List ℕ) → IsBelow one other → is_below one other ≡ true
+pub is_below-again : (one other : List ℕ) → IsBelow one other → is_below one other ≡ true
 unfolding is_below
 is_below-again one other is = ap is_lt is
 

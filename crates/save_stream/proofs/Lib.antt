@@ -1,11 +1,16 @@
 pub mod Again
+pub mod Faults
+pub mod Fields
+pub mod Filling
 pub mod Growing
+pub mod Judged
 pub mod Lengths
 pub mod Names
 pub mod OneSpelling
 pub mod Sound
 pub mod Standing
 pub mod Steps
+pub mod Stopping
 pub mod Streams
 pub mod Taking
 pub mod Whole

@@ -1,27 +1,22 @@
 -- Tests of a text.
 use Rattle.std.proofs.Common.{◌≡◌, ℕ, Bool, true, false, List, refl}
-use Rattle.std.specs.Prelude.{◌&&◌, ◌==◌, slice_index}
-use Rattle.std.specs.List.{list_all}
-use Rattle.std.specs.Str.{IsUtf8, is_utf8}
-use Rattle.std.proofs.lemmas.Str.{IsUtf8-from_is_utf8, is_utf8-from_IsUtf8}
-use Rattle.save_stream.specs.Reading.{is_name, is_path, is_printable}
+use Rattle.room_base.specs.Text.{IsName, IsPathText}
+use Rattle.save_stream.specs.Reading.{is_name, is_path}
+use Rattle.save_stream.proofs.Again.{is_name-again, is_path-again}
+use Rattle.save_stream.proofs.Sound.{is_name-is, is_path-is}
 
-pub name_by_parts : (bytes : List ℕ) (printable : Bool) → IsUtf8 bytes → printable ≡ list_all is_printable bytes → printable ≡ is_name bytes
-unfolding is_name
-name_by_parts bytes printable text is = rw (is_utf8-from_IsUtf8 bytes text) is
+pub name_is : (text : List ℕ) → IsName text → is_name text ≡ true
+name_is text is = is_name-again text is
 
-no_text : (bytes : List ℕ) (test other : Bool) → is_utf8 bytes ≡ test → ¬ (IsUtf8 bytes) → false ≡ test && other
-no_text bytes true other is none = absurd (none (IsUtf8-from_is_utf8 bytes is))
-no_text bytes false other is none = refl
+pub path_is : (text : List ℕ) → IsPathText text → is_path text ≡ true
+path_is text is = is_path-again text is
 
-pub no_name : (bytes : List ℕ) → ¬ (IsUtf8 bytes) → false ≡ is_name bytes
-unfolding is_name
-no_name bytes none = no_text bytes (is_utf8 bytes) (list_all is_printable bytes) refl none
+fails : (test : Bool) → ¬ (test ≡ true) → test ≡ false
+fails true none = absurd (none refl)
+fails false none = refl
 
-pub path_by_parts : (bytes : List ℕ) (slash : Bool) → IsUtf8 bytes → slash ≡ (slice_index bytes 0 == 0x2F) → slash ≡ is_path bytes
-unfolding is_path
-path_by_parts bytes slash text is = rw (is_utf8-from_IsUtf8 bytes text) is
+pub no_name : (text : List ℕ) → ¬ (IsName text) → is_name text ≡ false
+no_name text none = fails (is_name text) (λ is. none (is_name-is text is))
 
-pub no_path : (bytes : List ℕ) → ¬ (IsUtf8 bytes) → false ≡ is_path bytes
-unfolding is_path
-no_path bytes none = no_text bytes (is_utf8 bytes) (slice_index bytes 0 == 0x2F) refl none
+pub no_path : (text : List ℕ) → ¬ (IsPathText text) → is_path text ≡ false
+no_path text none = fails (is_path text) (λ is. none (is_path-is text is))

@@ -78,7 +78,7 @@ checked-when : {X : Type 0} (allows : X → Bool) (bytes : List ℕ) (part : Par
 checked-when allows bytes (Ok x) P is = allowed-is allows (allows x.0) x.0 x.1 bytes P refl is
 checked-when allows bytes (Err stop) P is = tt
 
-both-true : (one other : Bool) → one && other ≡ true → (one ≡ true) × (other ≡ true)
+pub both-true : (one other : Bool) → one && other ≡ true → (one ≡ true) × (other ≡ true)
 both-true true other is = (refl, is)
 both-true false other is = absurd cc
 
@@ -137,7 +137,7 @@ printable-is byte is =
     let parts = both-true (nat_le 0x20 byte) (not (eqb byte 0x7F)) is in
     (leb-true 0x20 byte parts.0, eqb-false byte 0x7F (not-true (eqb byte 0x7F) parts.1))
 
-is_name-is : (text : List ℕ) → is_name text ≡ true → IsName text
+pub is_name-is : (text : List ℕ) → is_name text ≡ true → IsName text
 unfolding is_name
 is_name-is text is =
     let parts = both-true (is_utf8 text) (list_all is_printable text) is in
@@ -188,7 +188,7 @@ base-takes ssid bytes is =
     when-weaker (checked (λ base. nat_lt base ssid) bytes (number_at 8 bytes)) _ _ (checked_number-takes (λ base. nat_lt base ssid) bytes is)
     (λ base rest took. (took.0.0, ltb-true base ssid took.1))
 
-is_level-is : (base level : ℕ) → is_level base level ≡ true → (level ≤ 10) × ((base ≡ 0) ↔ (level ≡ 0))
+pub is_level-is : (base level : ℕ) → is_level base level ≡ true → (level ≤ 10) × ((base ≡ 0) ↔ (level ≡ 0))
 is_level-is zero level is =
     let none : level ≡ 0 = eqb-true level 0 is in
     (omega (arith, none), (λ _. none, λ _. refl))
@@ -333,7 +333,7 @@ first-get : (text : List ℕ) → slice_index text 0 ≡ 0x2F → slice_get text
 first-get [] is = absurd cc
 first-get (first ∷ rest) is = ap (λ (n : ℕ). Some n) is
 
-is_path-is : (text : List ℕ) → is_path text ≡ true → IsPathText text
+pub is_path-is : (text : List ℕ) → is_path text ≡ true → IsPathText text
 unfolding is_path
 is_path-is text is =
     let parts = both-true (is_utf8 text) (eqb (slice_index text 0) 0x2F) is in
@@ -344,7 +344,7 @@ less-is Less is = refl
 less-is Equal is = absurd cc
 less-is Greater is = absurd cc
 
-is_below-is : (one other : List ℕ) → is_below one other ≡ true → IsBelow one other
+pub is_below-is : (one other : List ℕ) → is_below one other ≡ true → IsBelow one other
 unfolding is_below
 is_below-is one other is = less-is (slice_cmp nat_cmp one other) is
 

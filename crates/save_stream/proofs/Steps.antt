@@ -40,7 +40,7 @@ done reading = Ok reading
 abbrev pub failed : StreamFault → Result Reading StreamFault
 failed fault = Err fault
 
-done-is : (one other : Reading) → done one ≡ done other → one ≡ other
+pub done-is : (one other : Reading) → done one ≡ done other → one ≡ other
 done-is one other is = cc
 
 pub not-done : (fault : StreamFault) (reading : Reading) → failed fault ≡ done reading → ⊥

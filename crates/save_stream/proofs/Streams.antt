@@ -14,7 +14,7 @@ use Rattle.save_stream.specs.Standing.{Behind, StandsAt, Stands, IsWhole}
 use Rattle.save_stream.proofs.OneSpelling.{reads-append, reads-whole}
 use Rattle.save_stream.proofs.Steps.{not-done}
 
-true-not-false : true ≡ false → ⊥
+pub true-not-false : true ≡ false → ⊥
 true-not-false is = cc
 
 -- ---- the index

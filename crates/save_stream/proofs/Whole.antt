@@ -36,10 +36,10 @@ waits : {X : Type 0} (parse : List ℕ → Part X) (bytes more : List ℕ) (x : 
 waits parse bytes more x grows whole some = waits_from more (parse bytes) (parse (bytes ++ more)) x (grows bytes more).extends whole some
 
 -- a reading with pending bytes
-abbrev held : Reading → List ℕ → Reading
+abbrev pub held : Reading → List ℕ → Reading
 held base pending = record base { read = base.read + length pending; pending = pending }
 
-held-more : (base : Reading) (pending : List ℕ) (byte : ℕ) → with_byte (held base pending) byte ≡ held base (pending ++ byte ∷ [])
+pub held-more : (base : Reading) (pending : List ℕ) (byte : ℕ) → with_byte (held base pending) byte ≡ held base (pending ++ byte ∷ [])
 held-more base pending byte =
     ap (λ (n : ℕ). record base { read = n; pending = pending ++ byte ∷ [] }) (omega (arith, length-append pending (byte ∷ [])))
 

@@ -1,3 +1,5 @@
+pub mod BadField
+pub mod Fields
 pub mod Reading
 pub mod Spelling
 pub mod Standing

@@ -1,19 +1,17 @@
 //! Reads an entry up to the bytes of its file, and the end.
 
-ghost use Rattle.std.specs.Prelude.{◌≡◌, IfSome, is_some, ◌==◌, slice_index};
-ghost use Rattle.save_stream.specs.Reading.{Gives, kind_at, kind_of, is_path, is_below, path_at, mtime_at, size_at, front_at, end_at};
+ghost use Rattle.std.specs.Prelude.{◌≡◌};
+ghost use Rattle.save_stream.specs.Reading.{Gives, kind_at, kind_of, is_below, path_at, mtime_at, size_at, front_at, end_at};
 ghost use Rattle.save_stream.specs.Texts.{front_from};
 
 use crate::field::{allow, byte_of, bytes_of, mark_of, u16_of, u64_of};
 use crate::stop::Stop;
 use crate::{EntryKind, MAX_ENTRIES, MAX_SIZE};
+use room_base::{MAX_PATH, path_text};
 use std::cmp::Ordering;
 
 /// The byte that begins an end.
 pub(crate) const END_MARK: u8 = b'E';
-
-/// The longest path, in bytes.
-const MAX_PATH: u16 = 1024;
 
 /// The fields of an entry before the bytes of its file.
 #[derive(Clone, Copy)]
@@ -70,39 +68,17 @@ fn kind_of(byte: u8) -> Option<EntryKind>
     }
 }
 
-#[tactic(auto, unfolding(crate::specs::Reading::path_at))]
+#[tactic(auto, using(crate::proofs::Names::path_is, crate::proofs::Names::no_path), unfolding(crate::specs::Reading::path_at))]
 fn path_of<'a>(last: &[u8], bytes: &'a [u8]) -> Result<(&'a str, &'a [u8]), Stop>
     ensures { Gives (λ x. (x.0.now, x.1.now)) result (path_at last.now bytes.now) }
 {
     let (size, start) = u16_of(bytes)?;
+    let size = usize::from(size);
     allow(0 < size && size <= MAX_PATH, bytes)?;
-    let (path, rest) = bytes_of(usize::from(size), start)?;
+    let (path, rest) = bytes_of(size, start)?;
     match path_text(path) {
         Some(text) if is_below(last, path) => Ok((text, rest)),
         _ => Err(Stop::Wrong(start.len())),
-    }
-}
-
-// The bytes as a path's text, where they are one.
-fn path_text(bytes: &[u8]) -> Option<&str>
-    ensures text { IfSome result (λ text. text.now ≡ bytes.now) }
-    ensures some { is_some result ≡ is_path bytes.now }
-{
-    let Ok(text) = str::from_utf8(bytes) else {
-        return None;
-    };
-    if !begins_with_slash(bytes) {
-        return None;
-    }
-    Some(text)
-}
-
-fn begins_with_slash(bytes: &[u8]) -> bool
-    ensures { result ≡ (slice_index bytes.now 0 == 0x2F) }
-{
-    match bytes {
-        [first, ..] => *first == b'/',
-        [] => false,
     }
 }
 

@@ -1,11 +1,10 @@
 //! Reads single fields.
 
-ghost use Rattle.std.specs.Prelude.{◌≡◌, IfSome, is_some};
-ghost use Rattle.save_stream.specs.Reading.{Gives, Allows, byte_at, number_at, bytes_at, text_at, mark_at, is_name, is_printable};
-ghost use Rattle.std.specs.List.{list_all};
+ghost use Rattle.save_stream.specs.Reading.{Gives, Allows, byte_at, number_at, bytes_at, text_at, mark_at};
 
 use crate::stop::Stop;
 use byteorder::{BigEndian, ByteOrder};
+use room_base::name_text;
 
 /// A byte, and the bytes behind it.
 pub(crate) fn byte_of(bytes: &[u8]) -> Result<(u8, &[u8]), Stop>
@@ -71,7 +70,7 @@ pub(crate) fn mark_of(mark: u8, bytes: &[u8]) -> Result<(u8, &[u8]), Stop>
 }
 
 /// A name of `least` to `most` bytes, behind its length.
-#[tactic(auto, unfolding(crate::specs::Reading::text_at))]
+#[tactic(auto, using(crate::proofs::Names::name_is, crate::proofs::Names::no_name), unfolding(crate::specs::Reading::text_at))]
 pub(crate) fn text_of(least: u8, most: u8, bytes: &[u8]) -> Result<(&str, &[u8]), Stop>
     ensures { Gives (λ x. (x.0.now, x.1.now)) result (text_at least most bytes.now) }
 {
@@ -82,26 +81,4 @@ pub(crate) fn text_of(least: u8, most: u8, bytes: &[u8]) -> Result<(&str, &[u8])
         Some(text) => Ok((text, rest)),
         None => Err(Stop::Wrong(start.len())),
     }
-}
-
-// The bytes as a name's text, where they are one.
-#[tactic(auto, unfolding(crate::specs::Reading::is_name))]
-fn name_text(bytes: &[u8]) -> Option<&str>
-    ensures text { IfSome result (λ text. text.now ≡ bytes.now) }
-    ensures some { is_some result ≡ is_name bytes.now }
-{
-    let Ok(text) = str::from_utf8(bytes) else {
-        return None;
-    };
-    if !is_free_of_control(bytes) {
-        return None;
-    }
-    Some(text)
-}
-
-// No byte is a control character of ASCII.
-fn is_free_of_control(bytes: &[u8]) -> bool
-    ensures { result ≡ list_all is_printable bytes.now }
-{
-    bytes.iter().all(|byte| *byte >= 0x20 && *byte != 0x7F)
 }

@@ -1,10 +1,14 @@
 //! Laws of streams: each function has an empty body, and its contract is the law.
 
-ghost use Rattle.std.specs.Prelude.{◌≡◌, ◌≤◌, ℕ, ◌+◌, ◌++◌, ◌∷◌, List, length, Ok, Err, true};
+ghost use Rattle.std.specs.Prelude.{◌≡◌, ◌↔◌, ◌≤◌, ℕ, ◌+◌, ◌++◌, ◌∷◌, List, length, Ok, Err, true};
 ghost use Rattle.std.specs.List.{flat_map};
 ghost use Rattle.save_stream.specs.declared.head.SetHead.{SetHead};
 ghost use Rattle.save_stream.specs.declared.fault.StreamFault.{StreamFault};
-ghost use Rattle.save_stream.specs.Spelling.{IsHead, IsStream, Saved, StreamText, max_size, head_text, entry_text, index_of, index_from, index_entry, stream_text, file_bytes};
+ghost use Rattle.save_stream.specs.declared.fault.StreamFault.TheVariants.{Bad, TooMany};
+ghost use Rattle.save_stream.specs.BadField.{HasBadField, HasEntryTooMany};
+ghost use Rattle.save_stream.specs.declared.entry.IndexEntry.{IndexEntry};
+ghost use Rattle.save_stream.specs.Fields.{Fields, StreamFields, StreamIndex, fields_read, fields_of, HasRead};
+ghost use Rattle.save_stream.specs.Spelling.{IsHead, IsStream, Saved, StreamText, max_entries, max_size, head_text, entry_text, index_of, index_from, index_entry, stream_text, file_bytes};
 ghost use Rattle.save_stream.specs.Reading.{Reading, at_end, behind_head, start, reads, reads_all};
 ghost use Rattle.save_stream.specs.Standing.{AreBytes, IsWhole, Stands};
 
@@ -52,4 +56,29 @@ pub fn ended_streams_are_whole()
 /// Bytes with a fault are the beginning of no stream.
 pub fn faults_begin_no_stream()
     ensures { (text more : List ℕ) (fault : StreamFault) → reads start text ≡ Err fault → ¬ (IsWhole (text ++ more)) }
+{}
+
+/// A text has at most one index, and one head, number of files, length and digest.
+pub fn fields_are_one()
+    ensures fields { (text : List ℕ) (one other : Fields) → StreamFields text one → StreamFields text other → one ≡ other }
+    ensures index { (text : List ℕ) (one other : List IndexEntry) → StreamIndex text one → StreamIndex text other → one ≡ other }
+{}
+
+/// A reader at the end of a stream has read its fields and its index, and has each file's bytes at the
+/// place that the index says. One that was given the head needs the bytes behind it alone.
+pub fn ends_have_the_fields()
+    ensures from_start { (text : List ℕ) (reading : Reading) → AreBytes text → reads start text ≡ Ok reading
+        → reading.ended ≡ true → length text ≤ max_size → (head : SetHead) × ((entries : List Saved) × HasRead text head entries reading) }
+    ensures from_head { (head : SetHead) (body : List ℕ) (reading : Reading) → IsHead head → AreBytes body
+        → reads (behind_head (length (head_text head)) head) body ≡ Ok reading
+        → reading.ended ≡ true → length (head_text head ++ body) ≤ max_size
+        → ((entries : List Saved) × HasRead (head_text head ++ body) head entries reading)
+        × StreamFields (head_text head ++ body) (fields_read head body reading) }
+{}
+
+/// `Bad` is answered exactly where a field isn't allowed in its place, with the offset of the first one,
+/// and `TooMany` exactly where one more entry begins than there may be.
+pub fn faults_have_their_causes()
+    ensures bad { (stream : List ℕ) (offset : ℕ) → (reads start stream ≡ Err (Bad offset)) ↔ HasBadField stream offset }
+    ensures many { (stream : List ℕ) (limit : ℕ) → (reads start stream ≡ Err (TooMany limit)) ↔ ((limit ≡ max_entries) × HasEntryTooMany stream) }
 {}

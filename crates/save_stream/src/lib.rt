@@ -21,7 +21,8 @@ pub use entry::{EntryKind, IndexEntry, MAX_ENTRIES, MAX_SIZE};
 pub use fault::StreamFault;
 pub use head::SetHead;
 pub use laws::{
-    ended_streams_are_whole, faults_begin_no_stream, index_has_the_files, one_spelling,
+    ended_streams_are_whole, ends_have_the_fields, faults_begin_no_stream,
+    faults_have_their_causes, fields_are_one, index_has_the_files, one_spelling,
     same_in_any_pieces, streams_are_read, what_is_read_is_spelled,
 };
 pub use level::Level;

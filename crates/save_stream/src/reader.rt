@@ -19,7 +19,7 @@ const MAX_PENDING: usize = 1043;
 #[derive(Debug, Drop)]
 pub struct StreamReader {
     alloc: Global,
-    state: State,
+    pub(crate) state: State,
 }
 
 impl Model for StreamReader {

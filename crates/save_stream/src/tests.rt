@@ -1,4 +1,4 @@
-ghost use Rattle.std.specs.Prelude.{◌≤◌, length, IfOk};
+ghost use Rattle.std.specs.Prelude.{IfOk};
 ghost use Rattle.save_stream.specs.Spelling.{IsHead};
 
 use super::*;
@@ -7,7 +7,7 @@ use std::alloc::Global;
 use std::test::*;
 
 // The head of `sample_head`, in 70 bytes.
-const HEAD: [u8; 70] = [
+static HEAD: [u8; 70] = [
     b'H', 0, 0, 0, 0, 0, 0, 0, 1, 0, 0, 0, 0, 0, 0, 0, 0, 0, 0, 0, 0, 0, 0x65, 0x53, 0xf1, 0x00, 0,
     0, 0, 0, 0x65, 0x53, 0xf1, 0x00, 0, 0, 0, 0, 0x65, 0x53, 0xf1, 0x01, 5, b'a', b'l', b'p', b'h',
     b'a', 5, b'/', b'h', b'o', b'm', b'e', 7, b'n', b'i', b'g', b'h', b't', b'l', b'y', 7, b'D',
@@ -15,11 +15,24 @@ const HEAD: [u8; 70] = [
 ];
 
 // Two files, `/home/a` and `/home/b`, and the end.
-const BODY: [u8; 69] = [
+static BODY: [u8; 69] = [
     b'F', 0, 7, b'/', b'h', b'o', b'm', b'e', b'/', b'a', 0, 0, 0, 0, 0, 0, 0, 0, 0, 0, 0, 0, 0, 0,
     0, 5, b'h', b'e', b'l', b'l', b'o', b'F', 0, 7, b'/', b'h', b'o', b'm', b'e', b'/', b'b', 0, 0,
     0, 0, 0, 0, 0, 0, 0, 0, 0, 0, 0, 0, 0, 3, b'h', b'i', b'\n', b'E', 0, 0, 0, 0, 0, 0, 0, 2,
 ];
+
+// A folder `/d` with an mtime of 9, `/g` that is gone, and the end.
+static OTHERS: [u8; 27] = [
+    b'D', 0, 2, b'/', b'd', 0, 0, 0, 0, 0, 0, 0, 9, b'G', 0, 2, b'/', b'g', b'E', 0, 0, 0, 0, 0, 0,
+    0, 2,
+];
+
+// A file `/a` of 16 MiB, up to its bytes, and the end behind them.
+static LONG_FILE: [u8; 21] = [
+    b'F', 0, 2, b'/', b'a', 0, 0, 0, 0, 0, 0, 0, 0, 0, 0, 0, 0, 1, 0, 0, 0,
+];
+
+static END_OF_ONE: [u8; 9] = [b'E', 0, 0, 0, 0, 0, 0, 0, 1];
 
 fn sample_head(alloc: Global) -> Result<SetHead, Memory>
     ensures { IfOk result (λ head. IsHead head) }
@@ -38,11 +51,9 @@ fn sample_head(alloc: Global) -> Result<SetHead, Memory>
     })
 }
 
-// Takes a piece of a short stream.
-fn fed(reader: &mut StreamReader, piece: &[u8]) -> Result<(), StreamFault>
-    requires { length piece.now ≤ 1000000 }
-{
-    if reader.read() > 1_000_000 {
+// Takes a piece, of at most a million bytes, of a stream of less than a thousand million.
+fn fed(reader: &mut StreamReader, piece: &[u8]) -> Result<(), StreamFault> {
+    if reader.read() > 999_000_000 || piece.len() > 1_000_000 {
         return Err(StreamFault::Memory);
     }
     reader.take(piece)
@@ -59,6 +70,23 @@ fn has_both(reader: &StreamReader) -> bool {
                 && (one.size, one.place) == (5, 96)
                 && other.path.as_bytes() == b"/home/b".as_slice()
                 && (other.size, other.place) == (3, 127)
+        }
+        _ => false,
+    }
+}
+
+// The reader has read a head of 70 bytes, the folder and what is gone.
+fn has_others(reader: &StreamReader) -> bool {
+    match reader.entries() {
+        [folder, gone] => {
+            reader.ended()
+                && reader.read() == 97
+                && folder.kind == EntryKind::Folder
+                && folder.path.as_bytes() == b"/d".as_slice()
+                && (folder.mtime, folder.size, folder.place) == (9, 0, 0)
+                && gone.kind == EntryKind::Gone
+                && gone.path.as_bytes() == b"/g".as_slice()
+                && (gone.mtime, gone.size, gone.place) == (0, 0, 0)
         }
         _ => false,
     }
@@ -107,8 +135,18 @@ fn stream_is_read_byte_by_byte(rt: HostRuntime) -> Result<(), Fail> {
     Ok(())
 }
 
-// A byte of the stream, what stands there in its place, and where the field begins that is then bad.
-const BAD_FIELDS: [(usize, u8, u64); 28] = [
+#[test]
+fn folders_and_what_is_gone_are_read(rt: HostRuntime) -> Result<(), Fail> {
+    let alloc = rt.alloc();
+    let mut reader = StreamReader::after(alloc, sample_head(alloc)?)?;
+    assert_eq!(rt; fed(&mut reader, &OTHERS), Ok(()));
+    assert!(rt; has_others(&reader));
+    Ok(())
+}
+
+// A byte of the head and the two files, what stands there in its place, and where the field begins that
+// is then bad.
+static BAD_FIELDS: [(usize, u8, u64); 28] = [
     (0, b'E', 0),
     (8, 0, 1),
     (16, 1, 9),
@@ -139,31 +177,86 @@ const BAD_FIELDS: [(usize, u8, u64); 28] = [
     (138, 3, 131),
 ];
 
+// The same of the head, the folder and what is gone.
+static BAD_OTHERS: [(usize, u8, u64); 13] = [
+    (70, b'd', 70),
+    (71, 4, 71),
+    (72, 0, 71),
+    (73, b'd', 73),
+    (74, 0x80, 73),
+    (83, b'g', 83),
+    (84, 4, 84),
+    (85, 0, 84),
+    (86, b'g', 86),
+    (87, b'd', 86),
+    (87, 0xff, 86),
+    (88, b'e', 88),
+    (96, 1, 89),
+];
+
+// The head and this body with a byte in the place of another.
+fn changed(alloc: Global, body: &[u8], place: usize, byte: u8) -> Result<Vec<u8>, Memory> {
+    let mut stream = Vec::from_slice(alloc, &HEAD)?;
+    stream.extend_from_slice(body)?;
+    if let Some(other) = stream.get_mut(place) {
+        *other = byte;
+    }
+    Ok(stream)
+}
+
+// A fault has this offset, in one piece and in two that meet at this place, and changes nothing.
+fn is_bad(alloc: Global, stream: &[u8], place: usize, offset: u64) -> Result<bool, Memory> {
+    let bad = Err(StreamFault::Bad { offset });
+    let (front, back) = stream.split_at(place.min(stream.len()));
+    let mut reader = StreamReader::whole(alloc)?;
+    let whole = fed(&mut reader, stream) == bad && is_new(&reader);
+    let cut = fed(&mut reader, front) == Ok(()) && fed(&mut reader, back) == bad;
+    Ok(whole && cut && reader.read() == place as u64)
+}
+
+fn is_new(reader: &StreamReader) -> bool {
+    reader.read() == 0 && reader.head().is_none() && reader.entries().is_empty()
+}
+
 #[test]
 fn bad_fields_have_their_offsets(rt: HostRuntime) -> Result<(), Fail> {
     let alloc = rt.alloc();
-    for (place, byte, offset) in BAD_FIELDS {
-        let mut stream = Vec::from_slice(alloc, &HEAD)?;
-        stream.extend_from_slice(&BODY)?;
-        if let Some(other) = stream.get_mut(place) {
-            *other = byte;
-        }
-        let bad = Err(StreamFault::Bad { offset });
-        let mut reader = StreamReader::whole(alloc)?;
-        if stream.len() <= 1000 {
-            assert_eq!(rt; fed(&mut reader, &stream), bad);
-        }
-        assert_eq!(rt;
-            (reader.read(), reader.head(), reader.entries().len()),
-            (0, None, 0)
-        );
-        let (front, back) = stream.split_at(place.min(stream.len()));
-        if front.len() <= 1000 && back.len() <= 1000 {
-            assert_eq!(rt; fed(&mut reader, front), Ok(()));
-            assert_eq!(rt; fed(&mut reader, back), bad);
-        }
-        assert_eq!(rt; reader.read(), place as u64);
+    for (place, byte, offset) in &BAD_FIELDS {
+        let stream = changed(alloc, &BODY, *place, *byte)?;
+        assert!(rt; is_bad(alloc, &stream, *place, *offset)?, "at {place}");
     }
+    Ok(())
+}
+
+#[test]
+fn bad_fields_of_other_entries_have_their_offsets(rt: HostRuntime) -> Result<(), Fail> {
+    let alloc = rt.alloc();
+    for (place, byte, offset) in &BAD_OTHERS {
+        let stream = changed(alloc, &OTHERS, *place, *byte)?;
+        assert!(rt; is_bad(alloc, &stream, *place, *offset)?, "at {place}");
+    }
+    Ok(())
+}
+
+// No byte is kept, and no more room than this.
+fn keeps_nothing(reader: &StreamReader, room: usize) -> bool {
+    reader.state.pending.is_empty() && reader.state.pending.capacity() == room
+}
+
+#[test]
+fn bytes_of_files_are_not_kept(rt: HostRuntime) -> Result<(), Fail> {
+    let alloc = rt.alloc();
+    let mut reader = StreamReader::after(alloc, sample_head(alloc)?)?;
+    let room = reader.state.pending.capacity();
+    let piece = vec![in alloc; b'E'; 65_536]?;
+    assert_eq!(rt; fed(&mut reader, &LONG_FILE), Ok(()));
+    for _ in 0..256 {
+        assert_eq!(rt; fed(&mut reader, &piece), Ok(()));
+        assert!(rt; keeps_nothing(&reader, room));
+    }
+    assert_eq!(rt; reader.read(), 16_777_307);
+    assert_eq!(rt; fed(&mut reader, &END_OF_ONE), Ok(()));
+    assert!(rt; reader.ended());
     Ok(())
 }
 
