@@ -1,0 +1,8 @@
+pub mod Ordered
+pub mod Searched
+pub mod Paths
+pub mod Putting
+pub mod Deciding
+pub mod Passing
+pub mod Walked
+pub mod Shown
