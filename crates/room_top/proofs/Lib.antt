@@ -1,5 +1,6 @@
-pub mod Filling
+pub mod GetRuns
 pub mod Numbers
 pub mod PutRuns
 pub mod RawLabel
+pub mod Reporting
 pub mod TakenInput

@@ -1,33 +1,144 @@
 -- What storing a file on a raw cartridge leaves.
-use Rattle.std.proofs.Common.{◌≡◌, ◌∙◌, ◌+◌, ℕ, List, [], length, refl, inl, inr}
-use Rattle.room_disk.specs.Disk.{DiskView, Leaves, Quiet, OnFile}
-use Rattle.room_disk.proofs.Runs.{leaves_none, leaves_then, leaves_weaker, on_file_then, others_quiet}
+use Rattle.std.proofs.Common.{◌≡◌, ◌∙◌, ◌+◌, ◌≤◌, ℕ, List, [], length, Err, refl, sym, subst, inl, inr, arith}
+use Rattle.std.proofs.lemmas.Grind.{div_ceil_times}
+use Rattle.room_base.specs.Outside.{SourceView}
+use Rattle.room_disk.specs.Disk.{DiskView, Settled, Quiet, Others, Leaves, OnFile}
+use Rattle.room_disk.proofs.Runs.{leaves_none, leaves_then, leaves_weaker, on_file_then, others_quiet, others_then}
+use Rattle.volume_store.proofs.Walking.{quiet_then}
 use Rattle.volume_block.specs.Chunks.{ChunkText}
-use Rattle.volume_store.specs.Committed.{Committed}
-use Rattle.volume_store.specs.Writes.{added_file, with_file}
-use Rattle.room_top.specs.Raw.{raw_label, JoinTo}
-use Rattle.room_top.specs.Put.{HoldsFile, IsPut, IsFirstFile}
+use Rattle.volume_block.specs.declared.label.Label.{Label}
+use Rattle.volume_store.specs.Committed.{CommittedFile, Committed}
+use Rattle.volume_store.specs.Writes.{file_of, added_file, with_file, without_files, IsWholeOrAbsent}
+use Rattle.room_top.specs.Raw.{raw_label, IsRawCartridge, JoinTo}
+use Rattle.room_top.specs.Put.{Gains, IsOccupied, IsPut, IsFirstFile, IsSite, IsReady, HasRoom, blocks_for}
+use Rattle.room_top.specs.Run.{AreInput, TouchesCartridge, LeavesDisk}
+use Rattle.room_top.specs.Stages.{StoreCause, Stores}
+use Rattle.room_top.specs.declared.status.Status.{Status}
+use Rattle.room_top.specs.declared.status.Status.TheVariants as status
+use Rattle.room_top.specs.declared.site.Site.{Site}
+use Rattle.room_top.specs.declared.site.Site.TheVariants as sites
 
--- a raw cartridge with the one file that these blocks are
-pub holds_file : (cart made : ℕ) (bytes disk : List ℕ) (blocks : List (List ChunkText)) → JoinTo 1 blocks bytes
-    → Committed disk (with_file (raw_label cart made) [] 1 blocks) → HoldsFile cart bytes disk
-holds_file cart made bytes disk blocks joined stored = (made, added_file 1 blocks, 1 + length blocks + 1, stored, (blocks, refl, joined))
+-- a cartridge without a label gets the one file that these blocks are
+pub first_gains : (cart : ℕ) (bytes before disk : List ℕ) (label : Label) (blocks : List (List ChunkText)) → JoinTo 1 blocks bytes
+    → ¬ (IsOccupied before) → (made : ℕ) × (label ≡ raw_label cart made) → Committed disk (with_file label [] 1 blocks) → Gains cart bytes before 1 disk
+first_gains cart bytes before disk label blocks joined free named stored = record {
+  label = label;
+  files = [];
+  file = added_file 1 blocks;
+  end = 1 + length blocks + 1;
+  stood = inl (free, refl, named);
+  counted = refl;
+  stands = stored;
+  holds = (blocks, refl, joined);
+}
 
-first_is_put : (cart made : ℕ) (bytes before old disk : List ℕ) (blocks : List (List ChunkText)) → JoinTo 1 blocks bytes → before ≡ old
-    → IsFirstFile (raw_label cart made) blocks before disk → IsPut cart bytes old disk
-first_is_put cart made bytes before old disk blocks joined same (inl (inl kept)) = inl (kept ∙ same)
-first_is_put cart made bytes before old disk blocks joined same (inl (inr (inl closed))) = inr (inl (inl closed))
-first_is_put cart made bytes before old disk blocks joined same (inl (inr (inr empty))) = inr (inl (inr (made, empty)))
-first_is_put cart made bytes before old disk blocks joined same (inr whole) = inr (inr (holds_file cart made bytes disk blocks joined whole))
+-- a raw cartridge gets one file more
+pub next_gains : (cart mark number : ℕ) (bytes before disk : List ℕ) (label : Label) (files : List CommittedFile) (blocks : List (List ChunkText))
+    → JoinTo number blocks bytes → IsRawCartridge before label files mark → number ≡ length files + 1
+    → Committed disk (with_file label files mark blocks) → Gains cart bytes before number disk
+next_gains cart mark number bytes before disk label files blocks joined stood counted stored = record {
+  label = label;
+  files = files;
+  file = added_file mark blocks;
+  end = mark + length blocks + 1;
+  stood = inr (mark, stood);
+  counted = counted;
+  stands = stored;
+  holds = (blocks, refl, joined);
+}
+
+pub first_is_put : (cart : ℕ) (bytes before disk : List ℕ) (label : Label) (blocks : List (List ChunkText)) → JoinTo 1 blocks bytes
+    → ¬ (IsOccupied before) → (made : ℕ) × (label ≡ raw_label cart made) → IsFirstFile label blocks before disk → IsPut cart bytes before disk
+first_is_put cart bytes before disk label blocks joined free named (inl (inl kept)) = inl kept
+first_is_put cart bytes before disk label blocks joined free named (inl (inr (inl closed))) = inr (inr (inl (free, inl closed)))
+first_is_put cart bytes before disk label blocks joined free named (inl (inr (inr empty))) =
+    let P : Label → Type 0 = λ one. Committed disk (without_files one) in
+    inr (inr (inl (free, inr (named.0, subst P named.1 empty))))
+first_is_put cart bytes before disk label blocks joined free named (inr whole) =
+    inr (inr (inr (1, first_gains cart bytes before disk label blocks joined free named whole)))
+
+pub next_is_put : (cart mark number : ℕ) (bytes before disk : List ℕ) (label : Label) (files : List CommittedFile) (blocks : List (List ChunkText))
+    → JoinTo number blocks bytes → IsRawCartridge before label files mark → number ≡ length files + 1
+    → IsWholeOrAbsent label files mark blocks disk → IsPut cart bytes before disk
+next_is_put cart mark number bytes before disk label files blocks joined stood counted (inl absent) =
+    inr (inl (label, (files, (mark, stood, absent))))
+next_is_put cart mark number bytes before disk label files blocks joined stood counted (inr whole) =
+    inr (inr (inr (number, next_gains cart mark number bytes before disk label files blocks joined stood counted whole)))
+
+-- what was settled stays so where nothing is written
+pub settled_quiet : (old new : DiskView) (file : ℕ) → Quiet old new → Settled old file → Settled new file
+settled_quiet old new file quiet settled = λ bytes left. settled bytes (quiet.leaves file bytes left) ∙ sym (quiet.reads file)
+
+-- a site that is ready has room for the data blocks of the bytes
+pub has_room : (cart size count : ℕ) (site : Site) → IsReady cart size site → count ≡ blocks_for size → HasRoom cart count site
+has_room cart size count (sites.New label) ready is = (ready.0, ready.1, omega (arith, ready.2, is))
+has_room cart size count (sites.Next volume number) ready is = (ready.0, omega (arith, ready.3, is))
+
+-- a byte takes a data block
+pub some_blocks : (size : ℕ) → 1 ≤ size → 1 ≤ blocks_for size
+some_blocks size some = omega (arith, (div_ceil_times size 4016 (omega arith)).0)
+
+-- ---- behind calls that only read
 
 -- storing a file behind calls that add no image
-pub put_run : (old mid new : DiskView) (file cart made : ℕ) (bytes : List ℕ) (blocks : List (List ChunkText)) → Quiet old mid
-    → JoinTo 1 blocks bytes → Leaves mid new (OnFile file (IsFirstFile (raw_label cart made) blocks (mid.reads file)) mid)
-    → Leaves old new (OnFile file (IsPut cart bytes (old.reads file)) old)
-put_run old mid new file cart made bytes blocks quiet joined run =
-    let P : List ℕ → Type 0 = IsPut cart bytes (old.reads file) in
-    leaves_then old mid new (OnFile file P old)
-    (leaves_none old mid (OnFile file P old) quiet)
-    (leaves_weaker mid new (OnFile file (IsFirstFile (raw_label cart made) blocks (mid.reads file)) mid) (OnFile file P old) run
-    (on_file_then file (IsFirstFile (raw_label cart made) blocks (mid.reads file)) P old mid (others_quiet file old mid quiet)
-    (λ disk first. first_is_put cart made bytes (mid.reads file) (old.reads file) disk blocks joined (quiet.reads file) first)))
+pub touches : (input : SourceView) (old mid new : DiskView) (cart : ℕ) (bytes : List ℕ) (site : Site) → AreInput input bytes → Quiet old mid
+    → Settled mid (file_of cart) → IsSite cart (old.reads (file_of cart)) site → Others (file_of cart) mid new
+    → (IsSite cart (mid.reads (file_of cart)) site → Settled mid (file_of cart)
+    → Leaves mid new (OnFile (file_of cart) (IsPut cart bytes (mid.reads (file_of cart))) mid))
+    → TouchesCartridge input cart old new
+touches input old mid new cart bytes site are quiet settled at others run =
+    let file = file_of cart in
+    let At : List ℕ → Type 0 = λ (disk : List ℕ). IsSite cart disk site in
+    let P : List ℕ → Type 0 = IsPut cart bytes (mid.reads file) in
+    let Q : List ℕ → Type 0 = IsPut cart bytes (old.reads file) in (
+      others_then file old mid new (others_quiet file old mid quiet) others,
+      (
+        bytes,
+        are,
+        leaves_then old mid new (OnFile file Q old) (leaves_none old mid (OnFile file Q old) quiet)
+            (leaves_weaker mid new (OnFile file P mid) (OnFile file Q old) (run (subst At (sym (quiet.reads file)) at) settled)
+            (on_file_then file P Q old mid (others_quiet file old mid quiet)
+            (λ disk put. let Before : List ℕ → Type 0 = λ (before : List ℕ). IsPut cart bytes before disk in subst Before (quiet.reads file) put))),
+      ),
+    )
+
+-- where nothing was written the cartridge is untouched
+pub untouched : (input : SourceView) (old new : DiskView) (cart : ℕ) (bytes : List ℕ) → AreInput input bytes → Quiet old new → TouchesCartridge input cart old new
+untouched input old new cart bytes are quiet =
+    (others_quiet (file_of cart) old new quiet, (bytes, are, leaves_none old new (OnFile (file_of cart) (IsPut cart bytes (old.reads (file_of cart))) old) quiet))
+
+-- the file that was stored behind calls that add no image
+pub kept_behind : (old mid new : DiskView) (cart number : ℕ) (bytes : List ℕ) (site : Site) → Quiet old mid → IsSite cart (old.reads (file_of cart)) site
+    → (IsSite cart (mid.reads (file_of cart)) site → Gains cart bytes (mid.reads (file_of cart)) number (new.reads (file_of cart)) × Settled new (file_of cart))
+    → Gains cart bytes (old.reads (file_of cart)) number (new.reads (file_of cart)) × Settled new (file_of cart)
+kept_behind old mid new cart number bytes site quiet at stored =
+    let file = file_of cart in
+    let At : List ℕ → Type 0 = λ (disk : List ℕ). IsSite cart disk site in
+    let made = stored (subst At (sym (quiet.reads file)) at) in
+    let Before : List ℕ → Type 0 = λ (before : List ℕ). Gains cart bytes before number (new.reads file) in
+    (subst Before (quiet.reads file) made.0, made.1)
+
+-- what each status leaves, where nothing was written
+pub leaves_quiet_disk : (input : SourceView) (cart : ℕ) (old new : DiskView) (answer : Status) → Quiet old new → TouchesCartridge input cart old new
+    → LeavesDisk input cart old new answer
+leaves_quiet_disk input cart old new status.Done quiet touched = touched
+leaves_quiet_disk input cart old new (status.Usage word) quiet touched = quiet
+leaves_quiet_disk input cart old new status.Memory quiet touched = quiet
+leaves_quiet_disk input cart old new status.ReadFault quiet touched = quiet
+leaves_quiet_disk input cart old new status.WriteFault quiet touched = touched
+leaves_quiet_disk input cart old new status.DiskFault quiet touched = touched
+leaves_quiet_disk input cart old new status.ClockFault quiet touched = quiet
+leaves_quiet_disk input cart old new (status.Refused refusal) quiet touched = quiet
+
+-- what a fault of storing leaves
+pub leaves_stored : (input : SourceView) (cart number before now : ℕ) (old mid new : DiskView) (bytes : List ℕ) (fault : Status) → Quiet old mid
+    → StoreCause before now (Err fault) → Stores (file_of cart) cart bytes number mid new (Err fault) → TouchesCartridge input cart old new
+    → LeavesDisk input cart old new fault
+leaves_stored input cart number before now old mid new bytes status.Done quiet cause stored touched = touched
+leaves_stored input cart number before now old mid new bytes (status.Usage word) quiet cause stored touched = absurd cause
+leaves_stored input cart number before now old mid new bytes status.Memory quiet cause stored touched = quiet_then old mid new quiet stored
+leaves_stored input cart number before now old mid new bytes status.ReadFault quiet cause stored touched = absurd cause
+leaves_stored input cart number before now old mid new bytes status.WriteFault quiet cause stored touched = touched
+leaves_stored input cart number before now old mid new bytes status.DiskFault quiet cause stored touched = touched
+leaves_stored input cart number before now old mid new bytes status.ClockFault quiet cause stored touched = absurd cause
+leaves_stored input cart number before now old mid new bytes (status.Refused refusal) quiet cause stored touched = absurd cause

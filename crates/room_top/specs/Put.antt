@@ -1,38 +1,101 @@
 -- What `put` answers and leaves.
-use Rattle.std.specs.Prelude.{◌≡◌, ◌⊎◌, ℕ, ◌≤◌, List, [], ◌∷◌, ◌++◌, length, codes, slice_index}
+use Rattle.std.specs.Prelude.{◌≡◌, ◌⊎◌, ℕ, ◌+◌, ◌≤◌, ◌<◌, List, [], ◌∷◌, ◌++◌, length, codes, slice_index}
 use Rattle.std.specs.Fmt.{decimal}
+use Rattle.std.specs.Int.{div_ceil}
 use Rattle.volume_block.specs.Chunks.{ChunkText}
+use Rattle.volume_block.specs.Valid.{IsLabel}
 use Rattle.volume_block.specs.declared.label.Label.{Label}
 use Rattle.volume_store.specs.Committed.{CommittedFile, Committed, Unlabelled, Labelled, Closed}
 use Rattle.volume_store.specs.Writes.{without_files, with_file, IsBeingLabelled}
-use Rattle.room_top.specs.Raw.{raw_label, FileHolds}
+use Rattle.room_top.specs.Raw.{raw_label, IsRawCartridge, FileHolds}
+use Rattle.room_top.specs.declared.site.Site.{Site}
+use Rattle.room_top.specs.declared.site.Site.TheVariants as sites
 
 -- an input that becomes a file
 abbrev pub HasSize : List ℕ → Type 0
 HasSize bytes = (1 ≤ length bytes) × (length bytes ≤ 257024)
 
--- the cartridge has a raw label and one file, which holds these bytes
-abbrev pub HoldsFile : ℕ → List ℕ → List ℕ → Type 0
-HoldsFile cart bytes disk = (made : ℕ) × (file : CommittedFile) × (end : ℕ)
-    × Committed disk (Labelled (raw_label cart made) (file ∷ []) (Closed end)) × FileHolds 1 file bytes
-
--- the cartridge has no file: it has no label, or a raw one alone
-abbrev pub HasNoFile : ℕ → List ℕ → Type 0
-HasNoFile cart disk = Committed disk Unlabelled ⊎ ((made : ℕ) × Committed disk (without_files (raw_label cart made)))
-
--- What a crash may leave of the cartridge: what it was, or no file, or the file whole.
-abbrev pub IsPut : ℕ → List ℕ → List ℕ → List ℕ → Type 0
-IsPut cart bytes before disk = (disk ≡ before) ⊎ HasNoFile cart disk ⊎ HoldsFile cart bytes disk
-
--- While a cartridge gets its first file it is as it was, has no label, or has the new label with no file or this one.
-abbrev pub IsFirstFile : Label → List (List ChunkText) → List ℕ → List ℕ → Type 0
-IsFirstFile label blocks before disk = IsBeingLabelled label before disk ⊎ Committed disk (with_file label [] 1 blocks)
+-- how many data blocks so many bytes take
+abbrev pub blocks_for : ℕ → ℕ
+blocks_for size = div_ceil size 4016
 
 -- the first byte of a cartridge opens a label
 abbrev pub IsOccupied : List ℕ → Type 0
 IsOccupied disk = slice_index disk 0 ≡ 0x4C
 
+-- What stood on the cartridge before a file came to it: no label, and it gets a raw one first; or a raw one and
+-- these files.
+abbrev pub Stood : ℕ → List ℕ → Label → List CommittedFile → Type 0
+Stood cart before label files = (¬ (IsOccupied before) × (files ≡ []) × ((made : ℕ) × (label ≡ raw_label cart made)))
+    ⊎ ((mark : ℕ) × IsRawCartridge before label files mark)
+
+-- the cartridge has one file more than before, with this number, and it holds these bytes
+pub record Gains (cart : ℕ) (bytes before : List ℕ) (number : ℕ) (after : List ℕ) : Type 0 where
+  pub label : Label
+  pub files : List CommittedFile
+  pub file : CommittedFile
+  pub end : ℕ
+  pub stood : Stood cart before label files
+  pub counted : number ≡ length files + 1
+  pub stands : Committed after (Labelled label (files ++ file ∷ []) (Closed end))
+  pub holds : FileHolds number file bytes
+
+-- the raw cartridge has the files that it had
+abbrev pub HasOldFiles : List ℕ → List ℕ → Type 0
+HasOldFiles before disk = (label : Label) × ((files : List CommittedFile) × ((mark : ℕ)
+    × IsRawCartridge before label files mark × Committed disk (Labelled label files (Closed mark))))
+
+-- the cartridge has no file: it has no label, or a raw one alone
+abbrev pub HasNoFile : ℕ → List ℕ → Type 0
+HasNoFile cart disk = Committed disk Unlabelled ⊎ ((made : ℕ) × Committed disk (without_files (raw_label cart made)))
+
+-- What a crash may leave of the cartridge: what it was; the files that it had; no file, where it had none; or one
+-- file more, whole.
+abbrev pub IsPut : ℕ → List ℕ → List ℕ → List ℕ → Type 0
+IsPut cart bytes before disk = (disk ≡ before) ⊎ HasOldFiles before disk ⊎ (¬ (IsOccupied before) × HasNoFile cart disk)
+    ⊎ ((number : ℕ) × Gains cart bytes before number disk)
+
+-- While a cartridge gets its first file it is as it was, has no label, or has the new label with no file or this one.
+abbrev pub IsFirstFile : Label → List (List ChunkText) → List ℕ → List ℕ → Type 0
+IsFirstFile label blocks before disk = IsBeingLabelled label before disk ⊎ Committed disk (with_file label [] 1 blocks)
+
 -- what `put` prints
-abbrev pub kept_line : ℕ → ℕ → List ℕ
-kept_line size cart =
-    codes "kept " ++ (decimal size ++ (codes " bytes as file 1 of cart " ++ (decimal cart ++ codes "\n")))
+abbrev pub kept_line : ℕ → ℕ → ℕ → List ℕ
+kept_line size number cart = codes "kept " ++ (decimal size ++ (codes " bytes as file " ++ (decimal number
+    ++ (codes " of cart " ++ (decimal cart ++ codes "\n")))))
+
+-- ---- the site of the next file
+
+-- it is where the next file of the cartridge goes
+abbrev pub IsSite : ℕ → List ℕ → Site → Type 0
+IsSite cart before (sites.New label) = ¬ (IsOccupied before) × ((made : ℕ) × (label ≡ raw_label cart made))
+IsSite cart before (sites.Next volume number) =
+    (files : List CommittedFile) × IsRawCartridge before volume.label files volume.mark × (number ≡ length files + 1)
+
+-- there is room for so many bytes, and all numbers are in their ranges
+abbrev pub IsReady : ℕ → ℕ → Site → Type 0
+IsReady cart size (sites.New label) = (label.cart.0 ≡ cart) × IsLabel label × (blocks_for size + 3 ≤ label.capacity)
+IsReady cart size (sites.Next volume number) = (volume.cart.0 ≡ cart) × IsLabel volume.label × (1 ≤ volume.mark)
+    × (volume.mark + blocks_for size + 2 ≤ volume.label.capacity) × (1 ≤ number)
+
+-- there is room for so many data blocks
+abbrev pub HasRoom : ℕ → ℕ → Site → Type 0
+HasRoom cart count (sites.New label) = (label.cart.0 ≡ cart) × IsLabel label × (count + 3 ≤ label.capacity)
+HasRoom cart count (sites.Next volume number) = (volume.cart.0 ≡ cart) × (volume.mark + count + 2 ≤ volume.label.capacity)
+
+abbrev pub number_of : Site → ℕ
+number_of (sites.New label) = 1
+number_of (sites.Next volume number) = number
+
+abbrev pub mark_of : Site → ℕ
+mark_of (sites.New label) = 1
+mark_of (sites.Next volume number) = volume.mark
+
+abbrev pub volid_of : Site → ℕ
+volid_of (sites.New label) = label.volid.0
+volid_of (sites.Next volume number) = volume.label.volid.0
+
+-- a raw cartridge that has no room for so many bytes
+abbrev pub IsFull : ℕ → List ℕ → Type 0
+IsFull size before = (label : Label) × ((files : List CommittedFile) × ((mark : ℕ)
+    × IsRawCartridge before label files mark × (label.capacity < mark + blocks_for size + 2)))

@@ -1,13 +1,15 @@
 -- What the program answers, prints and leaves, status by status.
-use Rattle.std.specs.Prelude.{◌≡◌, ℕ, ◌≤◌, ◌<◌, List, [], ◌++◌, length, codes, Result, Ok, Err}
+use Rattle.std.specs.Prelude.{◌≡◌, ◌⊎◌, ℕ, ◌≤◌, ◌<◌, List, [], ◌++◌, length, codes, Result, Ok, Err}
 use Rattle.std.specs.Fmt.{decimal}
 use Rattle.room_base.specs.Faults.{Rose}
 use Rattle.room_base.specs.Outside.{SourceView, SinkView, ClockView, Told, GainsFront}
 use Rattle.room_base.specs.declared.refusal.Refusal.TheVariants as refusals
 use Rattle.room_disk.specs.Disk.{DiskView, Quiet, Others, Settled, Leaves, OnFile}
+use Rattle.volume_block.specs.declared.label.Label.{Label}
 use Rattle.volume_store.specs.Writes.{file_of}
-use Rattle.room_top.specs.Put.{HasSize, HoldsFile, IsPut, IsOccupied, kept_line}
-use Rattle.room_top.specs.Words.{ArePut, Misfit}
+use Rattle.room_top.specs.Raw.{GivesFile, IsDamagedAt, IsStrange}
+use Rattle.room_top.specs.Put.{HasSize, Gains, IsPut, IsOccupied, IsFull, kept_line}
+use Rattle.room_top.specs.Words.{ArePut, AreGet, Misfit}
 use Rattle.room_top.specs.declared.status.Status.{Status}
 use Rattle.room_top.specs.declared.status.Status.TheVariants as status
 
@@ -33,7 +35,9 @@ pub record Later (before now : Counts) : Type 0 where
   pub disk : (file : ℕ) → before.disk file ≤ now.disk file
   pub clock : before.clock ≤ now.clock
 
--- why `put` on this cartridge ends so: a fault has its count risen, and there are three refusals
+-- ---- put
+
+-- why `put` on this cartridge ends so: a fault has its count risen, and there are five refusals
 abbrev pub PutCause : ℕ → Counts → Counts → Status → Type 0
 PutCause cart before now status.Done = Unit {0}
 PutCause cart before now status.Memory = Unit {0}
@@ -44,9 +48,11 @@ PutCause cart before now status.ClockFault = Rose before.clock now.clock
 PutCause cart before now (status.Refused (refusals.Malformed field)) = field ≡ codes "input"
 PutCause cart before now (status.Refused (refusals.TooMany limit)) = limit ≡ 257024
 PutCause cart before now (status.Refused (refusals.Exists kind name)) = (kind ≡ codes "cart") × (name ≡ decimal cart)
+PutCause cart before now (status.Refused (refusals.DamagedBlock volid block)) = Unit {0}
+PutCause cart before now (status.Refused (refusals.NeedVolume pool)) = pool ≡ codes "Raw"
 PutCause cart before now other = ⊥
 
--- what the status says of the bytes that the input had, and of those that are left
+-- what the status of `put` says of the bytes that the input had, and of those that are left
 abbrev pub JudgesBytes : List ℕ → List ℕ → Status → Type 0
 JudgesBytes had left status.Done = HasSize had × (left ≡ [])
 JudgesBytes had left status.WriteFault = HasSize had
@@ -57,61 +63,90 @@ JudgesBytes had left (status.Refused (refusals.TooMany limit)) = 257024 < length
 JudgesBytes had left (status.Refused other) = HasSize had
 JudgesBytes had left other = Unit {0}
 
--- what the status says of the cartridge as it was
-abbrev pub JudgesCartridge : List ℕ → Status → Type 0
-JudgesCartridge before status.Done = ¬ (IsOccupied before)
-JudgesCartridge before status.WriteFault = ¬ (IsOccupied before)
-JudgesCartridge before status.ClockFault = ¬ (IsOccupied before)
-JudgesCartridge before (status.Refused (refusals.Exists kind name)) = IsOccupied before
-JudgesCartridge before other = Unit {0}
-
 -- the bytes of the input, where it tells them
 abbrev pub AreInput : SourceView → List ℕ → Type 0
 AreInput input bytes = Told input.tells (bytes ≡ input.left)
 
--- what is printed: the whole line, a front of it, or nothing
-abbrev pub Prints : SourceView → ℕ → List ℕ → List ℕ → Status → Type 0
-Prints input cart before now status.Done = (bytes : List ℕ) × AreInput input bytes × (now ≡ before ++ kept_line (length bytes) cart)
-Prints input cart before now status.WriteFault = (bytes : List ℕ) × AreInput input bytes × GainsFront before now (kept_line (length bytes) cart)
-Prints input cart before now other = now ≡ before
+-- what the status of `put` says of the cartridge as it was
+abbrev pub JudgesCartridge : SourceView → List ℕ → Status → Type 0
+JudgesCartridge input before status.ClockFault = ¬ (IsOccupied before)
+JudgesCartridge input before (status.Refused (refusals.Exists kind name)) = (label : Label) × IsStrange before label
+JudgesCartridge input before (status.Refused (refusals.DamagedBlock volid block)) = IsDamagedAt before volid.0 block
+JudgesCartridge input before (status.Refused (refusals.NeedVolume pool)) = (bytes : List ℕ) × AreInput input bytes × IsFull (length bytes) before
+JudgesCartridge input before other = Unit {0}
 
--- nothing is printed but where all was done, or the output failed
-abbrev pub IsSilent : List ℕ → List ℕ → Status → Type 0
-IsSilent before now status.Done = Unit {0}
-IsSilent before now status.WriteFault = Unit {0}
-IsSilent before now other = now ≡ before
+-- the input is a file of the cartridge, which has this number, and stays there at every crash
+abbrev pub IsKept : SourceView → ℕ → DiskView → DiskView → List ℕ → ℕ → Type 0
+IsKept input cart old new bytes number = AreInput input bytes × Told old.tells
+    (Gains cart bytes (old.reads (file_of cart)) number (new.reads (file_of cart)) × Settled new (file_of cart))
 
--- the file stands on the cartridge, and stays there at every crash
-abbrev pub KeepsFile : SourceView → ℕ → DiskView → Type 0
-KeepsFile input cart disk = (bytes : List ℕ) × AreInput input bytes × HoldsFile cart bytes (disk.reads (file_of cart)) × Settled disk (file_of cart)
+abbrev pub StoresFile : SourceView → ℕ → DiskView → DiskView → Status → Type 0
+StoresFile input cart old new status.Done = (bytes : List ℕ) × ((number : ℕ) × IsKept input cart old new bytes number)
+StoresFile input cart old new status.WriteFault = (bytes : List ℕ) × ((number : ℕ) × IsKept input cart old new bytes number)
+StoresFile input cart old new other = Unit {0}
 
-abbrev pub StoresFile : SourceView → ℕ → DiskView → Status → Type 0
-StoresFile input cart disk status.Done = KeepsFile input cart disk
-StoresFile input cart disk status.WriteFault = KeepsFile input cart disk
-StoresFile input cart disk other = Unit {0}
+-- what is printed: the whole line with the file's number, a front of it, or nothing
+abbrev pub Prints : SourceView → ℕ → DiskView → DiskView → List ℕ → List ℕ → Status → Type 0
+Prints input cart old new before now status.Done = (bytes : List ℕ) × ((number : ℕ) × IsKept input cart old new bytes number
+    × (now ≡ before ++ kept_line (length bytes) number cart))
+Prints input cart old new before now status.WriteFault = (bytes : List ℕ) × ((number : ℕ) × IsKept input cart old new bytes number
+    × GainsFront before now (kept_line (length bytes) number cart))
+Prints input cart old new before now other = now ≡ before
 
--- At every moment a crash leaves the cartridge as it was, without a file, or with the file whole; each other
--- file stays.
+-- At every moment a crash leaves the cartridge as `IsPut` says; each other file stays.
 abbrev pub TouchesCartridge : SourceView → ℕ → DiskView → DiskView → Type 0
 TouchesCartridge input cart old new = Others (file_of cart) old new × ((bytes : List ℕ) × AreInput input bytes
     × Leaves old new (OnFile (file_of cart) (IsPut cart bytes (old.reads (file_of cart))) old))
 
--- what is left of the disk: a refusal before the first write leaves it as it was
+-- what `put` leaves of the disk: a refusal before the first write leaves it as it was
 abbrev pub LeavesDisk : SourceView → ℕ → DiskView → DiskView → Status → Type 0
 LeavesDisk input cart old new status.Done = TouchesCartridge input cart old new
 LeavesDisk input cart old new status.WriteFault = TouchesCartridge input cart old new
 LeavesDisk input cart old new status.DiskFault = TouchesCartridge input cart old new
 LeavesDisk input cart old new other = Quiet old new
 
--- the same, for the cartridge that the words name
-abbrev pub LeavesDiskFor : List (List ℕ) → SourceView → DiskView → DiskView → Status → Type 0
-LeavesDiskFor words input old new status.Done = (cart : ℕ) × ArePut words cart × TouchesCartridge input cart old new
-LeavesDiskFor words input old new status.WriteFault = (cart : ℕ) × ArePut words cart × TouchesCartridge input cart old new
-LeavesDiskFor words input old new status.DiskFault = (cart : ℕ) × ArePut words cart × TouchesCartridge input cart old new
-LeavesDiskFor words input old new other = Quiet old new
+-- ---- get
 
--- P holds of the cartridge that the words name, or the words don't fit. Memory may be short before that is known.
-abbrev pub ForCartridge : List (List ℕ) → Status → (ℕ → Type 0) → Type 0
-ForCartridge words (status.Usage word) P = Misfit words word
-ForCartridge words status.Memory P = Unit {0}
-ForCartridge words other P = (cart : ℕ) × ArePut words cart × P cart
+-- why `get` of this file ends so, by the counts of the output and of the cartridge's file: a fault has its count
+-- risen, and there are four refusals
+abbrev pub GetsCause : ℕ → ℕ → ℕ → ℕ → ℕ → ℕ → Status → Type 0
+GetsCause cart number out_before out_now disk_before disk_now status.Done = Unit {0}
+GetsCause cart number out_before out_now disk_before disk_now status.Memory = Unit {0}
+GetsCause cart number out_before out_now disk_before disk_now status.WriteFault = Rose out_before out_now
+GetsCause cart number out_before out_now disk_before disk_now status.DiskFault = Rose disk_before disk_now
+GetsCause cart number out_before out_now disk_before disk_now (status.Refused (refusals.Unlabelled named)) = named.0 ≡ cart
+GetsCause cart number out_before out_now disk_before disk_now (status.Refused (refusals.DamagedBlock volid block)) = Unit {0}
+GetsCause cart number out_before out_now disk_before disk_now (status.Refused (refusals.Strange volid)) = Unit {0}
+GetsCause cart number out_before out_now disk_before disk_now (status.Refused (refusals.NoSuch kind name)) =
+    (kind ≡ codes "file") × (name ≡ decimal number)
+GetsCause cart number out_before out_now disk_before disk_now other = ⊥
+
+abbrev pub GetCause : ℕ → ℕ → Counts → Counts → Status → Type 0
+GetCause cart number before now answer =
+    GetsCause cart number before.out now.out (before.disk (file_of cart)) (now.disk (file_of cart)) answer
+
+-- the bytes of the file with this number, where the disk tells them
+abbrev pub AreOnDisk : DiskView → ℕ → ℕ → List ℕ → Type 0
+AreOnDisk disk cart number bytes = Told disk.tells (GivesFile (disk.reads (file_of cart)) number bytes)
+
+-- what is written: the file's bytes, a front of them, or nothing
+abbrev pub Gives : DiskView → ℕ → ℕ → List ℕ → List ℕ → Status → Type 0
+Gives disk cart number before now status.Done = (bytes : List ℕ) × AreOnDisk disk cart number bytes × (now ≡ before ++ bytes)
+Gives disk cart number before now status.WriteFault = (bytes : List ℕ) × AreOnDisk disk cart number bytes × GainsFront before now bytes
+Gives disk cart number before now other = now ≡ before
+
+-- ---- either of them
+
+-- P holds of the words of `put`, or Q of those of `get`; or the words don't fit. Memory may be short before that is
+-- known.
+abbrev pub ForCommand : List (List ℕ) → Status → (ℕ → Type 0) → (ℕ → ℕ → Type 0) → Type 0
+ForCommand words (status.Usage word) P Q = Misfit words word
+ForCommand words status.Memory P Q = Unit {0}
+ForCommand words other P Q =
+    ((cart : ℕ) × ArePut words cart × P cart) ⊎ ((cart : ℕ) × ((number : ℕ) × AreGet words cart number × Q cart number))
+
+-- where the words don't fit, or memory is short, everything stays as it was
+abbrev pub UnlessRun : Status → Type 0 → Type 0
+UnlessRun (status.Usage word) P = P
+UnlessRun status.Memory P = P
+UnlessRun other P = Unit {0}

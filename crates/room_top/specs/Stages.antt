@@ -1,10 +1,18 @@
 -- What each stage of `put` answers, and what follows from it.
-use Rattle.std.specs.Prelude.{◌≡◌, ℕ, ◌≤◌, ◌<◌, List, [], length, take, drop, codes, Result, Ok, Err}
+use Rattle.std.specs.Prelude.{◌≡◌, ◌⊎◌, ℕ, ◌+◌, ◌≤◌, ◌<◌, ◌^◌, List, [], length, take, drop, codes, Result, Ok, Err}
 use Rattle.std.specs.Fmt.{decimal}
 use Rattle.room_base.specs.Faults.{Rose}
 use Rattle.room_base.specs.declared.refusal.Refusal.TheVariants as refusals
 use Rattle.room_disk.specs.Disk.{DiskView, Quiet, Settled}
-use Rattle.room_top.specs.Put.{HoldsFile, IsOccupied}
+use Rattle.volume_block.specs.declared.label.Label.{Label}
+use Rattle.volume_store.specs.Committed.{block_at, IsPlace, Damaged, CommittedFile, Committed, Unlabelled, HasLabel}
+use Rattle.volume_store.specs.declared.marks.FilePlace.{FilePlace}
+use Rattle.room_top.specs.Raw.{raw_label, IsRaw, HasBytes, IsFileOn, IsFirstDamaged, GivesFile, IsDamagedIn, LacksFile, IsDamagedAt, IsStrange}
+use Rattle.room_top.specs.Put.{Gains, IsOccupied, blocks_for, IsSite, IsReady, IsFull}
+use Rattle.room_top.specs.declared.site.Site.{Site}
+use Rattle.room_top.specs.declared.site.Site.TheVariants as sites
+use Rattle.room_top.specs.declared.get.DataFault.{DataFault}
+use Rattle.room_top.specs.declared.get.DataFault.TheVariants as faults
 use Rattle.room_top.specs.declared.status.Status.{Status}
 use Rattle.room_top.specs.declared.status.Status.TheVariants as status
 
@@ -32,33 +40,169 @@ JudgesInput bytes_of left after (Err (status.Refused (refusals.Malformed field))
 JudgesInput bytes_of left after (Err (status.Refused (refusals.TooMany limit))) = 257024 < length left
 JudgesInput bytes_of left after (Err other) = Unit {0}
 
--- ---- storing the file
+-- ---- what is refused
 
--- the refusal of a cartridge that has a label, or want of memory
+-- the refusal of a cartridge whose label isn't raw, or want of memory
 abbrev pub IsOccupiedStatus : ℕ → Status → Type 0
 IsOccupiedStatus cart (status.Refused (refusals.Exists kind name)) = (kind ≡ codes "cart") × (name ≡ decimal cart)
 IsOccupiedStatus cart status.Memory = Unit {0}
 IsOccupiedStatus cart other = ⊥
 
--- the answers of storing the file, each with its cause
-abbrev pub StoreCause : ℕ → ℕ → ℕ → ℕ → ℕ → Result (Unit {0}) Status → Type 0
-StoreCause cart disk_before disk_now clock_before clock_now (Ok _) = Unit {0}
-StoreCause cart disk_before disk_now clock_before clock_now (Err status.Memory) = Unit {0}
-StoreCause cart disk_before disk_now clock_before clock_now (Err status.DiskFault) = Rose disk_before disk_now
-StoreCause cart disk_before disk_now clock_before clock_now (Err status.ClockFault) = Rose clock_before clock_now
-StoreCause cart disk_before disk_now clock_before clock_now (Err (status.Refused (refusals.Exists kind name))) =
-    (kind ≡ codes "cart") × (name ≡ decimal cart)
-StoreCause cart disk_before disk_now clock_before clock_now (Err other) = ⊥
+-- the refusal of a cartridge without room, or want of memory
+abbrev pub IsFullStatus : Status → Type 0
+IsFullStatus (status.Refused (refusals.NeedVolume pool)) = pool ≡ codes "Raw"
+IsFullStatus status.Memory = Unit {0}
+IsFullStatus other = ⊥
 
--- what each answer says of the cartridge as it was
-abbrev pub JudgesLabel : List ℕ → Result (Unit {0}) Status → Type 0
-JudgesLabel before (Ok _) = ¬ (IsOccupied before)
-JudgesLabel before (Err status.ClockFault) = ¬ (IsOccupied before)
-JudgesLabel before (Err (status.Refused refusal)) = IsOccupied before
-JudgesLabel before (Err other) = Unit {0}
+-- the refusal of a file that isn't there, or want of memory
+abbrev pub IsNoFileStatus : ℕ → Status → Type 0
+IsNoFileStatus number (status.Refused (refusals.NoSuch kind name)) = (kind ≡ codes "file") × (name ≡ decimal number)
+IsNoFileStatus number status.Memory = Unit {0}
+IsNoFileStatus number other = ⊥
+
+-- ---- finding the site of the next file
+
+-- the answers of finding it, each with its cause
+abbrev pub SiteCause : ℕ → ℕ → ℕ → ℕ → ℕ → Result Site Status → Type 0
+SiteCause cart disk_before disk_now clock_before clock_now (Ok _) = Unit {0}
+SiteCause cart disk_before disk_now clock_before clock_now (Err status.Memory) = Unit {0}
+SiteCause cart disk_before disk_now clock_before clock_now (Err status.DiskFault) = Rose disk_before disk_now
+SiteCause cart disk_before disk_now clock_before clock_now (Err status.ClockFault) = Rose clock_before clock_now
+SiteCause cart disk_before disk_now clock_before clock_now (Err (status.Refused (refusals.Exists kind name))) =
+    (kind ≡ codes "cart") × (name ≡ decimal cart)
+SiteCause cart disk_before disk_now clock_before clock_now (Err (status.Refused (refusals.DamagedBlock volid block))) = Unit {0}
+SiteCause cart disk_before disk_now clock_before clock_now (Err (status.Refused (refusals.NeedVolume pool))) = pool ≡ codes "Raw"
+SiteCause cart disk_before disk_now clock_before clock_now (Err other) = ⊥
+
+-- what each answer says of the cartridge
+abbrev pub JudgesSite : ℕ → ℕ → List ℕ → Result Site Status → Type 0
+JudgesSite cart size before (Ok site) = IsSite cart before site
+JudgesSite cart size before (Err status.ClockFault) = ¬ (IsOccupied before)
+JudgesSite cart size before (Err (status.Refused (refusals.Exists kind name))) = (label : Label) × IsStrange before label
+JudgesSite cart size before (Err (status.Refused (refusals.DamagedBlock volid block))) = IsDamagedAt before volid.0 block
+JudgesSite cart size before (Err (status.Refused (refusals.NeedVolume pool))) = IsFull size before
+JudgesSite cart size before (Err other) = Unit {0}
+
+-- after an answer nothing is pending on the file
+abbrev pub SettlesSite : DiskView → ℕ → Result Site Status → Type 0
+SettlesSite disk file (Ok site) = Settled disk file
+SettlesSite disk file (Err other) = Unit {0}
+
+-- the same of a cartridge that gets a label
+abbrev pub IsNewSite : ℕ → ℕ → ℕ → ℕ → Result Site Status → Type 0
+IsNewSite cart size before now (Ok (sites.New label)) = ((made : ℕ) × (label ≡ raw_label cart made)) × IsReady cart size (sites.New label)
+IsNewSite cart size before now (Ok (sites.Next volume number)) = ⊥
+IsNewSite cart size before now (Err status.ClockFault) = Rose before now
+IsNewSite cart size before now (Err other) = ⊥
+
+-- the same of a cartridge that has a label
+abbrev pub NextCause : ℕ → ℕ → ℕ → Result Site Status → Type 0
+NextCause cart before now (Ok _) = Unit {0}
+NextCause cart before now (Err status.Memory) = Unit {0}
+NextCause cart before now (Err status.DiskFault) = Rose before now
+NextCause cart before now (Err (status.Refused (refusals.Exists kind name))) = (kind ≡ codes "cart") × (name ≡ decimal cart)
+NextCause cart before now (Err (status.Refused (refusals.DamagedBlock volid block))) = Unit {0}
+NextCause cart before now (Err (status.Refused (refusals.NeedVolume pool))) = pool ≡ codes "Raw"
+NextCause cart before now (Err other) = ⊥
+
+-- the same at a mark place behind so many files
+abbrev pub IsPlaceBehind : ℕ → Label → ℕ → ℕ → ℕ → Result Site Status → Type 0
+IsPlaceBehind cart label mark files size (Ok (sites.Next volume number)) = (volume ≡ record { label = label; cart = record { 0 = cart }; mark = mark })
+    × (number ≡ files + 1) × (mark + blocks_for size + 2 ≤ label.capacity)
+IsPlaceBehind cart label mark files size (Ok (sites.New other)) = ⊥
+IsPlaceBehind cart label mark files size (Err status.Memory) = Unit {0}
+IsPlaceBehind cart label mark files size (Err (status.Refused (refusals.NeedVolume pool))) =
+    (pool ≡ codes "Raw") × (label.capacity < mark + blocks_for size + 2)
+IsPlaceBehind cart label mark files size (Err other) = ⊥
+
+-- ---- storing the file
+
+-- the answers of storing it, each with its cause
+abbrev pub StoreCause : ℕ → ℕ → Result (Unit {0}) Status → Type 0
+StoreCause before now (Ok _) = Unit {0}
+StoreCause before now (Err status.Memory) = Unit {0}
+StoreCause before now (Err status.DiskFault) = Rose before now
+StoreCause before now (Err other) = ⊥
 
 -- what each answer says of the disk: but for a fault of the disk, a failure leaves it as it was
-abbrev pub Stores : ℕ → ℕ → List ℕ → DiskView → DiskView → Result (Unit {0}) Status → Type 0
-Stores file cart bytes old new (Ok _) = HoldsFile cart bytes (new.reads file) × Settled new file
-Stores file cart bytes old new (Err status.DiskFault) = Unit {0}
-Stores file cart bytes old new (Err other) = Quiet old new
+abbrev pub Stores : ℕ → ℕ → List ℕ → ℕ → DiskView → DiskView → Result (Unit {0}) Status → Type 0
+Stores file cart bytes number old new (Ok _) = Gains cart bytes (old.reads file) number (new.reads file) × Settled new file
+Stores file cart bytes number old new (Err status.DiskFault) = Unit {0}
+Stores file cart bytes number old new (Err other) = Quiet old new
+
+-- ---- reading a file
+
+-- the faults of reading the file with this number, each with its cause
+abbrev pub ReadFaultCause : ℕ → ℕ → ℕ → ℕ → Status → Type 0
+ReadFaultCause cart number before now status.Memory = Unit {0}
+ReadFaultCause cart number before now status.DiskFault = Rose before now
+ReadFaultCause cart number before now (status.Refused (refusals.Unlabelled named)) = named.0 ≡ cart
+ReadFaultCause cart number before now (status.Refused (refusals.DamagedBlock volid block)) = Unit {0}
+ReadFaultCause cart number before now (status.Refused (refusals.Strange volid)) = Unit {0}
+ReadFaultCause cart number before now (status.Refused (refusals.NoSuch kind name)) = (kind ≡ codes "file") × (name ≡ decimal number)
+ReadFaultCause cart number before now other = ⊥
+
+abbrev pub ReadCause : {T : Type 0} → ℕ → ℕ → ℕ → ℕ → Result T Status → Type 0
+ReadCause cart number before now (Ok _) = Unit {0}
+ReadCause cart number before now (Err fault) = ReadFaultCause cart number before now fault
+
+-- the same of reading the label, whichever file is meant
+abbrev pub LabelCause : ℕ → ℕ → ℕ → Result Label Status → Type 0
+LabelCause cart before now (Ok _) = Unit {0}
+LabelCause cart before now (Err fault) = (number : ℕ) → ReadFaultCause cart number before now fault
+
+-- what each refusal says of the cartridge
+abbrev pub JudgesRead : ℕ → List ℕ → Status → Type 0
+JudgesRead number disk (status.Refused (refusals.Unlabelled named)) = Committed disk Unlabelled
+JudgesRead number disk (status.Refused (refusals.DamagedBlock volid block)) =
+    IsDamagedAt disk volid.0 block ⊎ IsDamagedIn disk number volid.0 block
+JudgesRead number disk (status.Refused (refusals.Strange volid)) = (label : Label) × IsStrange disk label × (volid.0 ≡ label.volid.0)
+JudgesRead number disk (status.Refused (refusals.NoSuch kind name)) = LacksFile disk number
+JudgesRead number disk other = Unit {0}
+
+-- the label of a raw cartridge, or why it has none
+abbrev pub FindsRawLabel : List ℕ → Result Label Status → Type 0
+FindsRawLabel disk (Ok label) = HasLabel disk label × IsRaw label
+FindsRawLabel disk (Err fault) = (number : ℕ) → JudgesRead number disk fault
+
+-- a label that is raw, or the refusal of one that isn't
+abbrev pub IsRawOrStrange : Label → Result Label Status → Type 0
+IsRawOrStrange label (Ok same) = (same ≡ label) × IsRaw label
+IsRawOrStrange label (Err (status.Refused (refusals.Strange volid))) = (volid ≡ label.volid) × ¬ (IsRaw label)
+IsRawOrStrange label (Err other) = ⊥
+
+-- the numbers of a place are in their ranges
+abbrev pub IsPlaceWithin : FilePlace → Type 0
+IsPlaceWithin place = (place.count ≤ 64) × (place.mark + place.count < 2 ^ 52)
+
+-- the place of the file with this number on the raw cartridge with this label, or why it has none
+abbrev pub FindsPlace : List ℕ → ℕ → Label → Result FilePlace Status → Type 0
+FindsPlace disk number label (Ok place) = (file : CommittedFile) × IsFileOn disk number label file
+    × (place.mark ≡ file.mark) × (place.count ≡ length file.places)
+FindsPlace disk number label (Err fault) = JudgesRead number disk fault
+
+-- the faults of reading data blocks, each with its cause
+abbrev pub DataCause : {T : Type 0} → ℕ → ℕ → Result T DataFault → Type 0
+DataCause before now (Ok _) = Unit {0}
+DataCause before now (Err faults.Memory) = Unit {0}
+DataCause before now (Err faults.Failed) = Rose before now
+DataCause before now (Err (faults.Damaged block)) = Unit {0}
+
+-- a data block was read, or the place is damaged
+abbrev pub IsDataRead : List ℕ → ℕ → ℕ → List ℕ → Result (Unit {0}) DataFault → Type 0
+IsDataRead disk volid number block (Ok _) = block ≡ block_at disk number
+IsDataRead disk volid number block (Err faults.Memory) = Unit {0}
+IsDataRead disk volid number block (Err faults.Failed) = Unit {0}
+IsDataRead disk volid number block (Err (faults.Damaged bad)) = (bad ≡ number) × IsPlace disk volid number Damaged
+
+-- the bytes of the data blocks of a file, or the first that is damaged
+abbrev pub GivesPlaces : {T : Type 0} → (T → List ℕ) → CommittedFile → Result T DataFault → Type 0
+GivesPlaces bytes_of file (Ok bytes) = HasBytes file (bytes_of bytes)
+GivesPlaces bytes_of file (Err faults.Memory) = Unit {0}
+GivesPlaces bytes_of file (Err faults.Failed) = Unit {0}
+GivesPlaces bytes_of file (Err (faults.Damaged block)) = IsFirstDamaged file block
+
+-- what reading gives: the file's bytes, or what is said of the cartridge
+abbrev pub Reads : {T : Type 0} → (T → List ℕ) → ℕ → List ℕ → Result T Status → Type 0
+Reads bytes_of number disk (Ok bytes) = GivesFile disk number (bytes_of bytes)
+Reads bytes_of number disk (Err answer) = JudgesRead number disk answer

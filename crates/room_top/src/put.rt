@@ -1,70 +1,58 @@
-ghost use Rattle.std.specs.Prelude.{◌≡◌, ◌≤◌, ℕ, List, length};
+ghost use Rattle.std.specs.Prelude.{◌≡◌, IfOk, string_bytes};
 ghost use Rattle.room_base.specs.Outside.{Told};
-ghost use Rattle.room_disk.specs.Disk.{Others, Leaves, OnFile};
 ghost use Rattle.volume_store.specs.Writes.{file_of, IsCart};
-ghost use Rattle.room_top.specs.Put.{HasSize, IsPut};
-ghost use Rattle.room_top.specs.Stages.{IsOccupiedStatus, StoreCause, JudgesLabel, Stores};
+ghost use Rattle.room_top.specs.Put.{kept_line};
+ghost use Rattle.room_top.specs.Run.{status_of, counts, Later, PutCause, JudgesBytes, JudgesCartridge, Prints, StoresFile, LeavesDisk};
 
 use crate::Status;
-use crate::raw::{FIRST_MARK, fill_region, raw_label_of};
-use crate::store::store_first_file;
-use itoa::Buffer;
-use room_base::{Cart, Clock, MAX_MOMENT, Moment, Name, Refusal};
+use crate::input::take_input;
+use crate::site::find_site;
+use crate::store::store_file;
+use room_base::{Cart, Clock, Sink, Source, write_all};
 use room_disk::Store;
-use std::alloc::Global;
-use volume_store::{Found, read_label};
+use std::alloc::{AllocError, Global};
 
-/// Makes the bytes the first file of a cartridge without a label.
-pub fn put_file<D: Store, C: Clock>(
+/// The input becomes the next file of the cartridge, and a line on `out` says so.
+pub fn put<S: Source, W: Sink, D: Store, C: Clock>(
     alloc: Global,
     cart: Cart,
-    bytes: &[u8],
+    input: &mut S,
+    out: &mut W,
     disk: &mut D,
     clock: &mut C,
 ) -> Result<(), Status>
-    requires cart { IsCart cart.0 }
-    requires size { HasSize bytes.now }
-    ensures disk_later { (file : ℕ) → (D.view disk.old).faults file ≤ (D.view disk.new).faults file }
-    ensures clock_later { (C.view clock.old).faults ≤ (C.view clock.new).faults }
-    ensures cause { StoreCause cart.0 ((D.view disk.old).faults (file_of cart.0)) ((D.view disk.new).faults (file_of cart.0))
-        (C.view clock.old).faults (C.view clock.new).faults result }
-    ensures disk_tells { (D.view disk.new).tells ≡ (D.view disk.old).tells }
-    ensures clock_tells { (C.view clock.new).tells ≡ (C.view clock.old).tells }
-    ensures judged { Told (D.view disk.old).tells (JudgesLabel ((D.view disk.old).reads (file_of cart.0)) result) }
-    ensures stored { Told (D.view disk.old).tells
-        (Stores (file_of cart.0) cart.0 bytes.now (D.view disk.old) (D.view disk.new) result) }
-    ensures others { Told (D.view disk.old).tells (Others (file_of cart.0) (D.view disk.old) (D.view disk.new)) }
-    ensures moments { Told (D.view disk.old).tells (Leaves (D.view disk.old) (D.view disk.new)
-        (OnFile (file_of cart.0) (IsPut cart.0 bytes.now ((D.view disk.old).reads (file_of cart.0))) (D.view disk.old))) }
+    requires { IsCart cart.0 }
+    ensures later { Later
+        (counts (S.view input.old) (W.view out.old) (D.view disk.old) (C.view clock.old))
+        (counts (S.view input.new) (W.view out.new) (D.view disk.new) (C.view clock.new)) }
+    ensures cause { PutCause cart.0
+        (counts (S.view input.old) (W.view out.old) (D.view disk.old) (C.view clock.old))
+        (counts (S.view input.new) (W.view out.new) (D.view disk.new) (C.view clock.new))
+        (status_of result) }
+    ensures bytes { Told (S.view input.old).tells (JudgesBytes (S.view input.old).left (S.view input.new).left (status_of result)) }
+    ensures cartridge { Told (D.view disk.old).tells
+        (JudgesCartridge (S.view input.old) ((D.view disk.old).reads (file_of cart.0)) (status_of result)) }
+    ensures printed { Told (W.view out.old).tells
+        (Prints (S.view input.old) cart.0 (D.view disk.old) (D.view disk.new) (W.view out.old).written (W.view out.new).written (status_of result)) }
+    ensures stored { StoresFile (S.view input.old) cart.0 (D.view disk.old) (D.view disk.new) (status_of result) }
+    ensures moments { Told (D.view disk.old).tells
+        (LeavesDisk (S.view input.old) cart.0 (D.view disk.old) (D.view disk.new) (status_of result)) }
 {
-    let Ok(found) = read_label(disk, cart) else {
-        return Err(Status::DiskFault);
-    };
-    if found == Found::Open {
-        return Err(occupied(alloc, cart));
-    }
-    let Ok(now) = clock.now() else {
-        return Err(Status::ClockFault);
-    };
-    let label = raw_label_of(cart, Moment(now.0.min(MAX_MOMENT.0)));
-    let Ok((region, count)) = fill_region(alloc, label.volid, FIRST_MARK, bytes) else {
+    let bytes = take_input(alloc, input)?;
+    let site = find_site(alloc, cart, bytes.len(), disk, clock)?;
+    let Ok(line) = kept_line_text(alloc, bytes.len(), site.number(), cart) else {
         return Err(Status::Memory);
     };
-    match store_first_file(disk, &label, &region, count) {
+    store_file(alloc, cart, &site, &bytes, disk)?;
+    match write_all(out, line.as_bytes()) {
         Ok(()) => Ok(()),
-        Err(_) => Err(Status::DiskFault),
+        Err(_) => Err(Status::WriteFault),
     }
 }
 
-// The refusal of a cartridge that has a label.
-fn occupied(alloc: Global, cart: Cart) -> Status
-    ensures { IsOccupiedStatus cart.0 result }
+// The line that says what was kept.
+fn kept_line_text(alloc: Global, size: usize, number: u64, cart: Cart) -> Result<String, AllocError>
+    ensures { IfOk result (λ line. string_bytes line ≡ kept_line size number cart.0) }
 {
-    let mut digits = Buffer::new();
-    let kind = Name::from_text(alloc, "cart");
-    let name = Name::from_text(alloc, digits.format(cart.0));
-    match (kind, name) {
-        (Ok(kind), Ok(name)) => Status::Refused(Refusal::Exists { kind, name }),
-        _ => Status::Memory,
-    }
+    format!(in alloc; "kept {size} bytes as file {number} of cart {}\n", cart.0)
 }

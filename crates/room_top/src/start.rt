@@ -1,3 +1,7 @@
+ghost use Rattle.std.specs.Prelude.{◌≡◌, ◌≤◌, ◌↔◌, ◌∷◌, [], ℕ, List, IsTrue, map, string_bytes};
+ghost use Rattle.room_base.specs.Outside.{Told};
+ghost use Rattle.room_top.specs.Start.{AsksFor, IsFolderOf, IsToldBy, TellsText, IsStarted};
+
 use crate::Status;
 use crate::report::report;
 use crate::run::run;
@@ -18,7 +22,8 @@ const HELP: &[u8] = b"usage: room FOLDER COMMAND ..
 room keeps files on cartridges, which are files of a folder that stand for tapes.
 
 commands:
-  put CART   the input becomes the first file of a blank cartridge, 1 to 256
+  put CART        the input becomes the next file of a blank or raw cartridge, 1 to 256
+  get CART FILE   a file of a raw cartridge is written, counted from 1
 
 The exit status is 0 where all was done; else a line on standard error says why not.
 ";
@@ -32,6 +37,7 @@ where
     R: Env + Files<File = File> + Clock + Input + AllocGlobal,
     O: Write + Drop,
     E: Write + Drop,
+    ensures { (words : List (List ℕ)) × IsStarted words result }
 {
     let alloc = rt.alloc();
     let mut out = StdSink::new(out);
@@ -69,7 +75,9 @@ enum Request {
 }
 
 // Reads the arguments behind the program's own name. Arguments that aren't all text are none.
-fn read_arguments<R: Env + AllocGlobal>(rt: &R) -> Result<Request, Status> {
+fn read_arguments<R: Env + AllocGlobal>(rt: &R) -> Result<Request, Status>
+    ensures { (words : List (List ℕ)) × AsksFor words result }
+{
     let alloc = rt.alloc();
     let mut words = Vec::new(alloc);
     let Ok(arguments) = env::args(rt) else {
@@ -80,21 +88,40 @@ fn read_arguments<R: Env + AllocGlobal>(rt: &R) -> Result<Request, Status> {
             return Err(Status::Memory);
         }
     }
+    request_of(alloc, words)
+}
+
+// What the words ask for.
+fn request_of(alloc: Global, mut words: Vec<String>) -> Result<Request, Status>
+    ensures { AsksFor (map string_bytes words.items) result }
+{
+    if is_alone(&words, "--help") {
+        return Ok(Request::Help);
+    }
+    if is_alone(&words, "--version") {
+        return Ok(Request::Version);
+    }
     let Some(first) = words.first() else {
         return Err(misfit(alloc, ""));
     };
-    if words.len() == 1 && first.as_str() == "--help" {
-        return Ok(Request::Help);
-    }
-    if words.len() == 1 && first.as_str() == "--version" {
-        return Ok(Request::Version);
-    }
     let folder = folder_of(alloc, first.as_str())?;
     words.remove(0);
     Ok(Request::Run { folder, words })
 }
 
-fn folder_of(alloc: Global, word: &str) -> Result<Name, Status> {
+// Whether this is the only word.
+fn is_alone(words: &[String], word: &str) -> bool
+    ensures { IsTrue result ↔ (map string_bytes words.now ≡ word.now ∷ []) }
+{
+    match words {
+        [only] => only.as_str() == word,
+        _ => false,
+    }
+}
+
+fn folder_of(alloc: Global, word: &str) -> Result<Name, Status>
+    ensures { IsFolderOf word.now result }
+{
     match Name::read(alloc, word.as_bytes(), MAX_FOLDER) {
         Ok(folder) => Ok(folder),
         Err(NameFault::Memory) => Err(Status::Memory),
@@ -103,7 +130,13 @@ fn folder_of(alloc: Global, word: &str) -> Result<Name, Status> {
 }
 
 // Writes a text that was asked for.
-fn told<W: Sink, E: Sink>(alloc: Global, out: &mut W, err: &mut E, text: &[u8]) -> Status {
+fn told<W: Sink, E: Sink>(alloc: Global, out: &mut W, err: &mut E, text: &[u8]) -> Status
+    ensures out_later { (W.view out.old).faults ≤ (W.view out.new).faults }
+    ensures err_later { (E.view err.old).faults ≤ (E.view err.new).faults }
+    ensures cause { IsToldBy (W.view out.old).faults (W.view out.new).faults result }
+    ensures written { Told (W.view out.old).tells
+        (TellsText (W.view out.old).written (W.view out.new).written text.now result) }
+{
     if write_all(out, text).is_ok() {
         return Status::Done;
     }

@@ -1,21 +1,100 @@
-ghost use Rattle.std.specs.Prelude.{◌≡◌, ◌⊎◌, ◌+◌, ◌≤◌, [], List, length, OnOk};
+ghost use Rattle.std.specs.Prelude.{◌≡◌, ◌⊎◌, ◌+◌, ◌≤◌, ℕ, [], List, length, OnOk};
 ghost use Rattle.room_base.specs.Outside.{Told};
 ghost use Rattle.room_disk.specs.Disk.{Others, Settled, Leaves, OnFile, FileCause};
 ghost use Rattle.volume_block.specs.Chunks.{ChunkText};
 ghost use Rattle.volume_block.specs.Valid.{IsLabel};
 ghost use Rattle.volume_block.specs.Region.{IsSealed};
 ghost use Rattle.volume_store.specs.Committed.{Committed};
-ghost use Rattle.volume_store.specs.Writes.{file_of, with_file};
-ghost use Rattle.room_top.specs.Put.{IsFirstFile};
+ghost use Rattle.volume_store.specs.Writes.{file_of, IsCart, with_file};
+ghost use Rattle.room_top.specs.Raw.{JoinTo};
+ghost use Rattle.room_top.specs.Put.{HasSize, Gains, IsPut, IsFirstFile, IsSite, IsReady, HasRoom, number_of, mark_of, volid_of};
+ghost use Rattle.room_top.specs.Stages.{StoreCause, Stores};
 
-use crate::raw::FIRST_MARK;
-use room_base::Failed;
+use crate::Status;
+use crate::site::Site;
+use chunk_mux::MuxBuffer;
+use room_base::{Cart, CopyNo, Failed, Ssid};
 use room_disk::Store;
+use std::alloc::Global;
 use volume_block::Label;
-use volume_store::{Volume, write_label};
+use volume_store::{FIRST_MARK, Volume, write_label};
 
-/// Labels the cartridge, and makes the region its first file.
-pub fn store_first_file<D: Store>(
+/// Makes the bytes the file of the site. All memory is taken before the first write.
+pub fn store_file<D: Store>(
+    alloc: Global,
+    cart: Cart,
+    site: &Site,
+    bytes: &[u8],
+    disk: &mut D,
+) -> Result<(), Status>
+    requires cart { IsCart cart.0 }
+    requires size { HasSize bytes.now }
+    requires ready { IsReady cart.0 (length bytes.now) site.now }
+    ensures later { (file : ℕ) → (D.view disk.old).faults file ≤ (D.view disk.new).faults file }
+    ensures cause { StoreCause ((D.view disk.old).faults (file_of cart.0)) ((D.view disk.new).faults (file_of cart.0)) result }
+    ensures tells { (D.view disk.new).tells ≡ (D.view disk.old).tells }
+    ensures others { Told (D.view disk.old).tells (Others (file_of cart.0) (D.view disk.old) (D.view disk.new)) }
+    ensures stored { Told (D.view disk.old).tells (IsSite cart.0 ((D.view disk.old).reads (file_of cart.0)) site.now
+        → Stores (file_of cart.0) cart.0 bytes.now (number_of site.now) (D.view disk.old) (D.view disk.new) result) }
+    ensures moments { Told (D.view disk.old).tells (IsSite cart.0 ((D.view disk.old).reads (file_of cart.0)) site.now
+        → Settled (D.view disk.old) (file_of cart.0)
+        → Leaves (D.view disk.old) (D.view disk.new) (OnFile (file_of cart.0)
+        (IsPut cart.0 bytes.now ((D.view disk.old).reads (file_of cart.0))) (D.view disk.old))) }
+{
+    let Ok(mut buffer) = MuxBuffer::new(alloc) else {
+        return Err(Status::Memory);
+    };
+    let number = site.number();
+    buffer.push(Ssid(number), CopyNo(1), 0, bytes);
+    let count = buffer.blocks();
+    let region = buffer.seal(site.volid(), site.mark());
+    match store_region(disk, cart, site, region, count) {
+        Ok(()) => Ok(()),
+        Err(_) => Err(Status::DiskFault),
+    }
+}
+
+// Makes the region the file of the site.
+fn store_region<D: Store>(
+    disk: &mut D,
+    cart: Cart,
+    site: &Site,
+    region: &[u8],
+    count: u32,
+) -> Result<(), Failed>
+    requires cart { IsCart cart.0 }
+    requires sealed { (blocks : List (List ChunkText)) × (length blocks ≡ count)
+        × IsSealed (volid_of site.now) (mark_of site.now) blocks region.now }
+    requires ready { HasRoom cart.0 count site.now }
+    ensures cause { FileCause (file_of cart.0) (D.view disk.old) (D.view disk.new) result }
+    ensures tells { (D.view disk.new).tells ≡ (D.view disk.old).tells }
+    ensures others { Told (D.view disk.old).tells (Others (file_of cart.0) (D.view disk.old) (D.view disk.new)) }
+    ensures stored { Told (D.view disk.old).tells ((blocks : List (List ChunkText)) (bytes : List ℕ)
+        → IsSealed (volid_of site.now) (mark_of site.now) blocks region.now
+        → JoinTo (number_of site.now) blocks bytes
+        → IsSite cart.0 ((D.view disk.old).reads (file_of cart.0)) site.now
+        → OnOk result (Gains cart.0 bytes ((D.view disk.old).reads (file_of cart.0)) (number_of site.now)
+        ((D.view disk.new).reads (file_of cart.0)))) }
+    ensures settled { Told (D.view disk.old).tells (OnOk result (Settled (D.view disk.new) (file_of cart.0))) }
+    ensures moments { Told (D.view disk.old).tells ((blocks : List (List ChunkText)) (bytes : List ℕ)
+        → IsSealed (volid_of site.now) (mark_of site.now) blocks region.now
+        → JoinTo (number_of site.now) blocks bytes
+        → IsSite cart.0 ((D.view disk.old).reads (file_of cart.0)) site.now
+        → Settled (D.view disk.old) (file_of cart.0)
+        → Leaves (D.view disk.old) (D.view disk.new) (OnFile (file_of cart.0)
+        (IsPut cart.0 bytes ((D.view disk.old).reads (file_of cart.0))) (D.view disk.old))) }
+{
+    match site {
+        Site::New(label) => store_first_file(disk, label, region, count),
+        Site::Next { volume, .. } => {
+            let mut volume = *volume;
+            volume.commit(disk, region, count)
+        }
+    }
+}
+
+// Labels the cartridge, and makes the region its first file.
+fn store_first_file<D: Store>(
     disk: &mut D,
     label: &Label,
     region: &[u8],

@@ -1,20 +1,22 @@
 ghost use Rattle.std.specs.Prelude.{◌<◌};
 
 use super::*;
-use crate::raw::{fill_region, raw_label_of};
-use room_base::{Cart, MemSink, MemSource, Moment, SetClock};
+use room_base::{MemSink, MemSource, Moment, SetClock};
 use room_disk::{MemStore, Store};
 use std::alloc::{AllocError, Global};
 use std::process::Abort;
 use std::test::Fail;
-use volume_store::Volume;
 
 /// The file of cartridge 1.
-const FILE: u32 = 2;
+pub(crate) const FILE: u32 = 2;
 
 /// The device calls of a `put` of one data block: the label's sync and read; the first byte closed and
 /// synced; the label written and synced, opened and synced; the region and its mark likewise.
 const PUT_CALLS: u64 = 12;
+
+/// Those of a second `put`: the label's sync and read, the length, two mark places; the region and its
+/// mark.
+const NEXT_CALLS: u64 = 9;
 
 /// The SHA-256 of the label block, as another program computes it.
 const LABEL_DIGEST: [u8; 32] = [
@@ -36,22 +38,22 @@ const DATA_DIGEST: [u8; 32] = [
 
 /// What a run of the program left behind.
 #[derive(Drop)]
-struct Ended {
-    status: u8,
-    out: Vec<u8>,
-    err: Vec<u8>,
+pub(crate) struct Ended {
+    pub(crate) status: u8,
+    pub(crate) out: Vec<u8>,
+    pub(crate) err: Vec<u8>,
 }
 
 /// The call of each object that is to fail, counted from 1; 0 for none.
 #[derive(Clone, Copy)]
-struct Failing {
+pub(crate) struct Failing {
     input: u64,
     out: u64,
     err: u64,
     clock: u64,
 }
 
-const NO_FAILING: Failing = Failing {
+pub(crate) const NO_FAILING: Failing = Failing {
     input: 0,
     out: 0,
     err: 0,
@@ -59,7 +61,7 @@ const NO_FAILING: Failing = Failing {
 };
 
 // Runs the program with the words, which have blanks between.
-fn run_words(
+pub(crate) fn run_words(
     alloc: Global,
     words: &str,
     bytes: &[u8],
@@ -99,12 +101,12 @@ fn ending_of(alloc: Global, status: &Status, out: &MemSink, err: &MemSink) -> Re
     })
 }
 
-fn put_abc(alloc: Global, disk: &mut MemStore) -> Result<u8, Fail> {
+pub(crate) fn put_abc(alloc: Global, disk: &mut MemStore) -> Result<u8, Fail> {
     Ok(run_words(alloc, "put 1", b"abc", disk, NO_FAILING)?.status)
 }
 
 // A blank disk whose calls fail from one on, or where one call fails.
-fn blank(alloc: Global, failing: u64, stop: Option<u64>) -> Result<MemStore, Fail> {
+pub(crate) fn blank(alloc: Global, failing: u64, stop: Option<u64>) -> Result<MemStore, Fail> {
     Ok(MemStore::new(alloc, vec![in alloc; failing]?, stop))
 }
 
@@ -115,14 +117,14 @@ fn after_crash(disk: MemStore, choice: u8) -> MemStore
 }
 
 // All bytes of cartridge 1.
-fn cartridge(alloc: Global, disk: &mut MemStore) -> Result<Vec<u8>, Fail> {
+pub(crate) fn cartridge(alloc: Global, disk: &mut MemStore) -> Result<Vec<u8>, Fail> {
     let len = usize::try_from(disk.len(FILE)?)?;
     let mut bytes = zeros(alloc, len)?;
     disk.read_at(FILE, 0, &mut bytes)?;
     Ok(bytes)
 }
 
-fn zeros(alloc: Global, count: usize) -> Result<Vec<u8>, AllocError> {
+pub(crate) fn zeros(alloc: Global, count: usize) -> Result<Vec<u8>, AllocError> {
     vec![in alloc; 0; count]
 }
 
@@ -130,7 +132,7 @@ fn part(bytes: &[u8], from: usize, to: usize) -> &[u8] {
     bytes.get(from..to).unwrap_or(b"")
 }
 
-fn is_same(one: &[u8], other: &[u8]) -> bool {
+pub(crate) fn is_same(one: &[u8], other: &[u8]) -> bool {
     one == other
 }
 
@@ -211,15 +213,21 @@ fn put_keeps_abc(rt: HostRuntime) -> Result<(), Fail> {
 }
 
 /// Words and an input's length, the status that they end with, and the line that says why.
-static JUDGED: [(&str, usize, u8, &str); 10] = [
+static JUDGED: [(&str, usize, u8, &str); 16] = [
     ("", 3, 2, "room: usage \n"),
-    ("get 1", 3, 2, "room: usage get\n"),
+    ("desk", 3, 2, "room: usage desk\n"),
     ("put", 3, 2, "room: usage \n"),
     ("put 0", 3, 2, "room: usage 0\n"),
     ("put 257", 3, 2, "room: usage 257\n"),
     ("put 01", 3, 2, "room: usage 01\n"),
     ("put +1", 3, 2, "room: usage +1\n"),
     ("put 1 more", 3, 2, "room: usage more\n"),
+    ("get", 3, 2, "room: usage \n"),
+    ("get 1", 3, 2, "room: usage \n"),
+    ("get 257 1", 3, 2, "room: usage 257\n"),
+    ("get 1 0", 3, 2, "room: usage 0\n"),
+    ("get 1 1 more", 3, 2, "room: usage more\n"),
+    ("get 1 1", 3, 11, "room: refused 18 Unlabelled cart=1\n"),
     ("put 1", 0, 11, "room: refused 1 Malformed field=input\n"),
     (
         "put 1",
@@ -241,22 +249,6 @@ fn inputs_and_words_are_judged(rt: HostRuntime) -> Result<(), Fail> {
         assert!(rt; ended.out.is_empty());
         assert!(rt; cartridge(alloc, &mut disk)?.is_empty());
     }
-    Ok(())
-}
-
-#[test]
-fn the_longest_input_fills_a_cartridge_once(rt: HostRuntime) -> Result<(), Fail> {
-    let alloc = rt.alloc();
-    let mut disk = blank(alloc, 0, None)?;
-    let input = zeros(alloc, 257_024)?;
-    let ended = run_words(alloc, "put 1", &input, &mut disk, NO_FAILING)?;
-    assert!(rt; is_same(&ended.out, b"kept 257024 bytes as file 1 of cart 1\n"));
-    let kept = cartridge(alloc, &mut disk)?;
-    assert_eq!(rt; kept.len(), 274_432);
-    let again = run_words(alloc, "put 1", b"abc", &mut disk, NO_FAILING)?;
-    assert_eq!(rt; again.status, 11);
-    assert!(rt; is_same(&again.err, b"room: refused 3 Exists kind=cart name=1\n"));
-    assert!(rt; is_same(&cartridge(alloc, &mut disk)?, &kept));
     Ok(())
 }
 
@@ -318,13 +310,12 @@ fn stopped_put(
     let has_file = files_on(&bytes) == Some(1);
     assert!(rt; has_file || first == 6, "{stop} {choice}");
     assert!(rt; !has_file || is_same(&bytes, whole), "{stop} {choice}");
-    // A second put is refused where a label stands, and else succeeds.
-    let labelled = bytes.first() == Some(&b'L');
+    // A second put puts the file, or one file more.
     let second = put_abc(alloc, &mut after)?;
-    assert_eq!(rt; second, if labelled { 11 } else { 0 });
+    assert_eq!(rt; second, 0);
     let kept = cartridge(alloc, &mut after)?;
-    let expected = if labelled { bytes.as_slice() } else { whole };
-    assert!(rt; is_same(&kept, expected), "{stop} {choice}");
+    assert!(rt; has_file || is_same(&kept, whole), "{stop} {choice}");
+    assert!(rt; !has_file || files_on(&kept) == Some(2), "{stop} {choice}");
     Ok(())
 }
 
@@ -342,23 +333,8 @@ fn put_is_whole_or_absent_wherever_it_stops(rt: HostRuntime) -> Result<(), Fail>
     Ok(())
 }
 
-// Commits a second file on the cartridge, and says whether that was answered Ok.
-fn commit_second(alloc: Global, disk: &mut MemStore) -> Result<bool, Fail> {
-    let label = raw_label_of(Cart(1), Moment(1_700_000_000));
-    let (region, count) = fill_region(alloc, label.volid, 3, b"de")?;
-    if count != 1 {
-        return Ok(false);
-    }
-    let mut volume = Volume {
-        label,
-        cart: Cart(1),
-        mark: 3,
-    };
-    Ok(volume.commit(disk, &region, count).is_ok())
-}
-
-// How many files stand after a commit that stops after so many calls, and a crash.
-fn stopped_commit(
+// How many files stand after a second `put` that stops after so many calls, and a crash.
+fn stopped_second(
     rt: &impl Abort,
     alloc: Global,
     calls: u64,
@@ -369,7 +345,7 @@ fn stopped_commit(
 {
     let mut disk = blank(alloc, 0, Some(PUT_CALLS + calls))?;
     put_abc(alloc, &mut disk)?;
-    let done = commit_second(alloc, &mut disk)?;
+    let done = run_words(alloc, "put 1", b"de", &mut disk, NO_FAILING)?.status == 0;
     let bytes = cartridge(alloc, &mut after_crash(disk, choice))?;
     // The first file stands as it was, and the second is whole or not there.
     assert!(rt; is_same(part(&bytes, 8272, 8275), b"abc"));
@@ -388,18 +364,18 @@ fn stopped_commit(
 }
 
 #[test]
-fn commit_is_whole_or_absent_wherever_it_stops(rt: HostRuntime) -> Result<(), Fail> {
+fn a_second_file_is_whole_or_absent_wherever_it_stops(rt: HostRuntime) -> Result<(), Fail> {
     let alloc = rt.alloc();
     let mut complete = 0u32;
-    for calls in 0..=4u64 {
+    for calls in 0..=NEXT_CALLS {
         for choice in 0..4u8 {
-            if stopped_commit(&rt, alloc, calls, choice)? == Some(2) {
+            if stopped_second(&rt, alloc, calls, choice)? == Some(2) {
                 complete = complete.wrapping_add(1);
             }
         }
     }
-    // At each choice after all four calls, and after three where the letter that wasn't synced is kept.
-    // Half of that one byte is nothing, and 0xFF is no letter.
+    // At each choice after all calls, and without the last sync where the letter is kept. Half of that one
+    // byte is nothing, and 0xFF is no letter.
     assert_eq!(rt; complete, 5, "the stops that leave the second file");
     Ok(())
 }

@@ -10,7 +10,8 @@ use Rattle.volume_block.proofs.Lengths.{length-label_text, length-closed_block}
 use Rattle.room_disk.specs.Crash.{overlaid, Torn, GatedTorn}
 use Rattle.room_disk.proofs.Overlay.{letter_whole}
 use Rattle.volume_store.specs.Committed.{block_at, kind_at, Committed, Unlabelled}
-use Rattle.volume_store.specs.Writes.{labelled, without_files, IsClosed, IsOpening}
+use Rattle.volume_store.specs.Writes.{labelled, without_files, IsOpening}
+use Rattle.volume_store.specs.Reads.{IsClosed}
 use Rattle.volume_store.proofs.Blocks.{block_behind, byte_behind}
 use Rattle.volume_store.proofs.Committing.{first_zero}
 

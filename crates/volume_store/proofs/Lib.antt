@@ -1,5 +1,9 @@
 pub mod Blocks
 pub mod Committing
+pub mod EachCartridge
 pub mod Files
+pub mod Finding
 pub mod Labelling
+pub mod OneContents
 pub mod Regions
+pub mod Walking

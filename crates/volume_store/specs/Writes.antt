@@ -1,12 +1,10 @@
 -- What labelling and committing write.
-use Rattle.std.specs.Prelude.{◌≡◌, ◌≢◌, ◌⊎◌, ℕ, ◌+◌, ◌≤◌, ◌<◌, List, [], ◌∷◌, ◌++◌, length, map, drop, slice_index}
+use Rattle.std.specs.Prelude.{◌≡◌, ◌⊎◌, ℕ, ◌+◌, ◌≤◌, List, [], ◌∷◌, ◌++◌, length, map, drop}
 use Rattle.volume_block.specs.Chunks.{ChunkText}
 use Rattle.volume_block.specs.Valid.{label_text}
 use Rattle.volume_block.specs.Region.{closed_block}
 use Rattle.volume_block.specs.declared.label.Label.{Label}
 use Rattle.volume_store.specs.Committed.{Whole, CommittedFile, Closed, Contents, Unlabelled, Labelled, Committed}
-use Rattle.volume_store.specs.declared.label.Found.{Found}
-use Rattle.volume_store.specs.declared.label.Found.TheVariants as found
 
 -- the file of a cartridge
 abbrev pub file_of : ℕ → ℕ
@@ -48,16 +46,6 @@ abbrev pub IsBeingLabelled : Label → List ℕ → List ℕ → Type 0
 IsBeingLabelled label old bytes =
     (bytes ≡ old) ⊎ Committed bytes Unlabelled ⊎ Committed bytes (without_files label)
 
--- there are bytes, and the first isn't `L`
-abbrev pub IsClosed : List ℕ → Type 0
-IsClosed bytes = (0 < length bytes) × (slice_index bytes 0 ≢ 0x4C)
-
 -- while a closed cartridge gets its label it has none, or has the new label and no file
 abbrev pub IsOpening : Label → List ℕ → Type 0
 IsOpening label bytes = Committed bytes Unlabelled ⊎ Committed bytes (without_files label)
-
--- what is found where a label stands
-abbrev pub Finds : List ℕ → Found → Type 0
-Finds bytes found.Blank = length bytes ≡ 0
-Finds bytes found.Closed = IsClosed bytes
-Finds bytes found.Open = slice_index bytes 0 ≡ 0x4C

@@ -7,6 +7,7 @@ ghost use Rattle.volume_block.specs.Region.{IsSealed};
 ghost use Rattle.volume_store.specs.Writes.{file_of, IsCart, opened, with_file, IsWholeOrAbsent};
 ghost use Rattle.volume_store.specs.Committed.{CommittedFile, Closed, Committed, Labelled};
 
+use crate::marks::MARK_GATE;
 use room_base::{Cart, Failed};
 use room_disk::{Store, write_gated};
 use volume_block::{BLOCK_SIZE, Label};
@@ -19,9 +20,6 @@ pub struct Volume {
     pub cart: Cart,
     pub mark: u64,
 }
-
-/// The byte that opens a mark.
-const MARK_GATE: u8 = b'F';
 
 impl Volume {
     /// Makes the region the volume's next file; `count` is the number of its data blocks. After `Failed`

@@ -1,15 +1,17 @@
-ghost use Rattle.std.specs.Prelude.{◌≡◌, ◌+◌, ◌-◌, ◌<◌, ◌≤◌, [], ◌∷◌, ◌++◌, length, drop, IfOk, OnOk};
+ghost use Rattle.std.specs.Prelude.{◌≡◌, ◌+◌, ◌-◌, ◌<◌, ◌≤◌, [], ◌∷◌, ◌++◌, length, drop, slice_index, IfOk, OnOk};
 ghost use Rattle.room_base.specs.Outside.{Told};
 ghost use Rattle.room_disk.specs.Disk.{Quiet, Others, Settled, Leaves, OnFile, FileCause};
 ghost use Rattle.room_disk.specs.Crash.{overlaid, Torn};
 ghost use Rattle.volume_block.specs.Valid.{IsLabel, label_text};
 ghost use Rattle.volume_block.specs.Region.{closed_block};
-ghost use Rattle.volume_store.specs.Writes.{file_of, IsCart, IsClosed, Finds, labelled, without_files, IsBeingLabelled, IsOpening};
+ghost use Rattle.volume_store.specs.Writes.{file_of, IsCart, labelled, without_files, IsBeingLabelled, IsOpening};
+ghost use Rattle.volume_store.specs.Reads.{IsClosed, FindsLabel, Finds, IsAllowed};
 ghost use Rattle.volume_store.specs.Committed.{Committed};
 
+use crate::reading::read_front;
 use room_base::{Cart, Failed};
 use room_disk::{Store, write_gated, write_synced};
-use volume_block::{BLOCK_SIZE, Label, encode_label};
+use volume_block::{BLOCK_SIZE, BadBlock, Label, Reason, decode_label, encode_label};
 
 /// What stands where a cartridge's label is.
 #[derive(Clone, Copy, Debug, PartialEq, Eq)]
@@ -18,34 +20,61 @@ pub enum Found {
     Blank,
     /// It has no label.
     Closed,
-    /// It has one.
-    Open,
+    /// Its label isn't valid, and which part of it is the first wrong one.
+    Damaged(BadBlock),
+    Labelled(Label),
 }
 
 /// The byte that opens a label.
 const LABEL_GATE: u8 = b'L';
 
-/// Looks for the label of a cartridge. It syncs the cartridge first, so that what it finds stays.
+#[tactic(auto, using(crate::proofs::Finding::finds))]
+/// Reads the label of a cartridge. It syncs the cartridge first, so that what it finds stays.
 pub fn read_label<D: Store>(store: &mut D, cart: Cart) -> Result<Found, Failed>
     requires { IsCart cart.0 }
     ensures cause { FileCause (file_of cart.0) (D.view store.old) (D.view store.new) result }
     ensures tells { (D.view store.new).tells ≡ (D.view store.old).tells }
     ensures quiet { Told (D.view store.old).tells (Quiet (D.view store.old) (D.view store.new)) }
     ensures settled { Told (D.view store.old).tells (OnOk result (Settled (D.view store.new) (file_of cart.0))) }
+    ensures allowed { IfOk result IsAllowed }
     ensures found { Told (D.view store.old).tells
-        (IfOk result (λ found. Finds ((D.view store.old).reads (file_of cart.0)) found)) }
+        (IfOk result (Finds ((D.view store.old).reads (file_of cart.0)))) }
 {
     let file = cart.0 + 1;
     store.sync(file)?;
-    let mut kind = [0];
-    let count = store.read_at(file, 0, &mut kind)?;
-    Ok(if count == 0 {
-        Found::Blank
-    } else if kind[0] == LABEL_GATE {
-        Found::Open
-    } else {
-        Found::Closed
-    })
+    let mut block = [0; BLOCK_SIZE];
+    let count = read_front(store, file, 0, &mut block)?;
+    Ok(label_of(&block[..count]))
+}
+
+fn label_of(bytes: &[u8]) -> Found
+    requires { length bytes.now ≤ 4096 }
+    ensures found { FindsLabel bytes.now result }
+    ensures allowed { IsAllowed result }
+{
+    match bytes {
+        [] => Found::Blank,
+        [LABEL_GATE, ..] => open_label_of(bytes),
+        _ => Found::Closed,
+    }
+}
+
+#[tactic(auto, using(crate::proofs::Finding::wrong_label, crate::proofs::Finding::short_label))]
+fn open_label_of(bytes: &[u8]) -> Found
+    requires size { length bytes.now ≤ 4096 }
+    requires open { slice_index bytes.now 0 ≡ 0x4C }
+    ensures found { FindsLabel bytes.now result }
+    ensures allowed { IsAllowed result }
+{
+    if bytes.len() < BLOCK_SIZE {
+        return Found::Damaged(BadBlock {
+            why: Reason::Length,
+        });
+    }
+    match decode_label(bytes) {
+        Ok(label) => Found::Labelled(label),
+        Err(bad) => Found::Damaged(bad),
+    }
 }
 
 /// Writes a label on its cartridge, whose files are then gone. After `Failed` the cartridge may have no

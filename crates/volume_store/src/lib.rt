@@ -1,8 +1,15 @@
-//! Volumes on cartridges: labelling, and commits of files. docs/formats.md has the sequences of writes.
+//! Volumes on cartridges: labelling, mounting, commits of files, and the reading of blocks.
+//! docs/formats.md has the sequences of writes.
 #![tactic(auto)]
 
 mod commit;
 mod label;
+mod laws;
+mod marks;
+mod reading;
 
 pub use commit::Volume;
 pub use label::{Found, read_label, write_label};
+pub use laws::{every_cartridge_is, one_contents};
+pub use marks::{FIRST_MARK, FilePlace, MarkWalk, MountFault, WalkFault, mount, walk_marks};
+pub use reading::{BLOCK_LIMIT, ReadFault, read_block};

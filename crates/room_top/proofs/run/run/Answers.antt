@@ -1,17 +1,43 @@
 use Rattle.std.proofs.Common.{subst, sym, map}
 use Rattle.std.specs.Prelude.{string_bytes}
-use Rattle.room_top.specs.Run.{Prints, StoresFile, ForCartridge}
+use Rattle.room_disk.specs.Disk.{Quiet}
+use Rattle.volume_store.specs.Writes.{file_of}
+use Rattle.room_top.specs.Stages.{JudgesRead}
+use Rattle.room_top.specs.Run.{JudgesCartridge, Prints, Gives, StoresFile, LeavesDisk, ForCommand}
 use Rattle.room_top.specs.declared.status.Status.{Status}
 use Rattle.room_top.proofs.run.run.Goals as goal
 
-pub returns-clause-printed : goal.returns-clause-printed
-returns-clause-printed g c = λ told.
-    let P : Status → Type 0 = λ status. ForCartridge (map string_bytes c.args.words.now) status
-    (λ cart. Prints (g.S.Source.view c.args.input.now) cart (g.W.Sink.view c.args.out.now).written (g.W.Sink.view c.obey.new.out).written status) in
-    subst P (sym c.status_from-status.ensures) (c.obey.ensures.printed told)
+pub returns-clause-cartridge : goal.returns-clause-cartridge
+returns-clause-cartridge g c = λ told.
+    let before = (g.D.Store.view c.args.disk.now).reads in
+    let P : Status → Type 0 = λ status. ForCommand (map string_bytes c.args.words.now) status
+    (λ cart. JudgesCartridge (g.S.Source.view c.args.input.now) (before (file_of cart)) status)
+    (λ cart number. JudgesRead number (before (file_of cart)) status) in
+    subst P (sym c.status_from-status.ensures) (c.obey.ensures.cartridge told)
+
+pub returns-clause-written : goal.returns-clause-written
+returns-clause-written g c = λ told.
+    let old = g.D.Store.view c.args.disk.now in
+    let new = g.D.Store.view c.obey.new.disk in
+    let before = (g.W.Sink.view c.args.out.now).written in
+    let now = (g.W.Sink.view c.obey.new.out).written in
+    let P : Status → Type 0 = λ status. ForCommand (map string_bytes c.args.words.now) status
+    (λ cart. Prints (g.S.Source.view c.args.input.now) cart old new before now status)
+    (λ cart number. Gives old cart number before now status) in
+    subst P (sym c.status_from-status.ensures) (c.obey.ensures.written told)
 
 pub returns-clause-stored : goal.returns-clause-stored
-returns-clause-stored g c = λ told.
-    let P : Status → Type 0 = λ status. ForCartridge (map string_bytes c.args.words.now) status
-    (λ cart. StoresFile (g.S.Source.view c.args.input.now) cart (g.D.Store.view c.obey.new.disk) status) in
-    subst P (sym c.status_from-status.ensures) (c.obey.ensures.stored told)
+returns-clause-stored g c =
+    let old = g.D.Store.view c.args.disk.now in
+    let new = g.D.Store.view c.obey.new.disk in
+    let P : Status → Type 0 = λ status. ForCommand (map string_bytes c.args.words.now) status
+    (λ cart. StoresFile (g.S.Source.view c.args.input.now) cart old new status) (λ _ _. Unit {0}) in
+    subst P (sym c.status_from-status.ensures) c.obey.ensures.stored
+
+pub returns-clause-moments : goal.returns-clause-moments
+returns-clause-moments g c = λ told.
+    let old = g.D.Store.view c.args.disk.now in
+    let new = g.D.Store.view c.obey.new.disk in
+    let P : Status → Type 0 = λ status. ForCommand (map string_bytes c.args.words.now) status
+    (λ cart. LeavesDisk (g.S.Source.view c.args.input.now) cart old new status) (λ _ _. Quiet old new) in
+    subst P (sym c.status_from-status.ensures) (c.obey.ensures.moments told)

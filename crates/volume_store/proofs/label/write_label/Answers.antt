@@ -6,7 +6,8 @@ use Rattle.room_disk.specs.Crash.{Torn}
 use Rattle.room_disk.proofs.Runs.{on_file_weaker, on_file_then, leaves_then, leaves_weaker}
 use Rattle.volume_store.proofs.Labelling.{labelled_empty, closing_torn, cleared}
 use Rattle.volume_store.specs.Committed.{Committed}
-use Rattle.volume_store.specs.Writes.{file_of, labelled, without_files, IsClosed, IsOpening, IsBeingLabelled}
+use Rattle.volume_store.specs.Writes.{file_of, labelled, without_files, IsOpening, IsBeingLabelled}
+use Rattle.volume_store.specs.Reads.{IsClosed}
 use Rattle.volume_store.proofs.label.write_label.Goals as goal
 
 pub returns-clause-empty : goal.returns-clause-empty

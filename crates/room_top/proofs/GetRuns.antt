@@ -1,0 +1,300 @@
+-- Reading the bytes of a file, chunk by chunk and block by block.
+use Rattle.std.proofs.Common.{◌≡◌, ℕ, suc, ◌+◌, ◌<◌, ◌≤◌, List, [], ◌∷◌, ◌++◌, length, map, take, drop, Some, None, Err, refl, sym, ap, subst, ◌∙◌, append_assoc, arith, inl, inr}
+use Rattle.std.proofs.lemmas.List.{append-nil, length-append, length-map, map-append}
+use Rattle.std.proofs.lemmas.Grind.{flat_map-append}
+use Rattle.volume_block.specs.Chunks.{ChunkText, chunk_text, chunks_text, all_chunks, JoinFrom}
+use Rattle.volume_block.specs.Valid.{HoldsChunks, ValidBlock}
+use Rattle.volume_block.specs.Places.{SplitsAt, IsChunkPlace, FindsFirst}
+use Rattle.volume_block.specs.declared.block.Block.{Block}
+use Rattle.volume_block.specs.declared.block.Block.TheVariants as kinds
+use Rattle.volume_block.specs.declared.block.Chunk.{Chunk}
+use Rattle.volume_block.specs.declared.block.Reason.{Reason}
+use Rattle.volume_block.proofs.OneBlock.{one_block}
+use Rattle.volume_block.proofs.Lengths.{length-chunk_text}
+use Rattle.volume_store.specs.Committed.{block_at, Place, Whole, Damaged, IsPlace, ArePlaces, CommittedFile, Closed, FilesFrom, Contents, Unlabelled, BadLabel, Labelled}
+use Rattle.volume_store.proofs.OneContents.{one_contents}
+use Rattle.volume_store.specs.Reads.{IsBad}
+use Rattle.volume_block.specs.declared.label.Label.{Label}
+use Rattle.room_top.specs.Raw.{IsRaw, joined, HasBytes, IsFirstDamaged, IsFileOn, GivesFile}
+use Rattle.room_top.specs.Put.{Stood, Gains}
+use Rattle.room_top.specs.Stages.{DataCause, IsDataRead, GivesPlaces}
+use Rattle.room_top.specs.declared.get.DataFault.{DataFault}
+use Rattle.room_top.specs.declared.get.DataFault.TheVariants as faults
+
+-- ---- what is no data block
+
+pub mark_is_damaged : (disk : List ℕ) (volid number count : ℕ) → ValidBlock (block_at disk number) volid number (kinds.Mark count) → IsPlace disk volid number Damaged
+mark_is_damaged disk volid number count valid = λ chunks held.
+    let data_block : Block = kinds.Data (length (chunks_text chunks)) in
+    let same : kinds.Mark count ≡ data_block =
+    (one_block (block_at disk number) volid number volid number (kinds.Mark count) data_block valid (chunks, held, refl)).2 in
+    absurd (cc same)
+
+pub bad_is_damaged : (disk : List ℕ) (volid number : ℕ) (why : Reason) → IsBad (block_at disk number) volid number why → IsPlace disk volid number Damaged
+bad_is_damaged disk volid number why bad = λ chunks held. bad.invalid (kinds.Data (length (chunks_text chunks))) (chunks, held, refl)
+
+-- ---- chunk by chunk
+
+-- the bytes of the chunks before a place are appended
+pub record HasAppended (start bytes : List ℕ) (at : ℕ) (chunks : List ChunkText) : Type 0 where
+  pub before : List ChunkText
+  pub after : List ChunkText
+  pub split : chunks ≡ before ++ after
+  pub stands : at ≡ length (chunks_text before)
+  pub are : bytes ≡ start ++ joined before
+
+pub none_appended : (start : List ℕ) (chunks : List ChunkText) → HasAppended start start 0 chunks
+none_appended start chunks = record { before = []; after = chunks; split = refl; stands = refl; are = sym (append-nil start) }
+
+pub splits : (block start bytes : List ℕ) (volid number at : ℕ) (chunks : List ChunkText) → HoldsChunks block volid number chunks
+    → (so_far : HasAppended start bytes at chunks) → SplitsAt block volid number at so_far.before so_far.after
+splits block start bytes volid number at chunks held so_far =
+    let P : List ChunkText → Type 0 = λ (all : List ChunkText). HoldsChunks block volid number all in
+    record { holds = subst P so_far.split held; stands = so_far.stands }
+
+append_first : (block start bytes new : List ℕ) (at : ℕ) (chunks before after : List ChunkText) (found : Chunk) → chunks ≡ before ++ after
+    → at ≡ length (chunks_text before) → bytes ≡ start ++ joined before → FindsFirst block at after (Some found)
+    → new ≡ bytes ++ take found.length (drop found.start block) → HasAppended start new found.next chunks
+append_first block start bytes new at chunks before [] found split stands are finds added = absurd (cc finds)
+append_first block start bytes new at chunks before (chunk ∷ after) found split stands are finds added = record {
+  before = before ++ chunk ∷ [];
+  after = after;
+  split = split ∙ sym (append_assoc before (chunk ∷ []) after);
+  stands = finds.next ∙ omega (arith, stands, ap length (flat_map-append chunk_text before (chunk ∷ [])), length-append (chunks_text before) (chunks_text (chunk ∷ [])), ap length (append-nil (chunk_text chunk)), length-chunk_text chunk);
+  are = added ∙ ap (λ (t : List ℕ). bytes ++ t) finds.text ∙ ap (λ (t : List ℕ). t ++ chunk.bytes) are ∙ append_assoc start (joined before) chunk.bytes
+      ∙ ap (λ (t : List ℕ). start ++ (joined before ++ t)) (sym (append-nil chunk.bytes))
+      ∙ ap (λ (t : List ℕ). start ++ t) (sym (flat_map-append (λ (one : ChunkText). one.bytes) before (chunk ∷ [])));
+}
+
+pub append_more : (block start bytes new : List ℕ) (volid number at : ℕ) (chunks : List ChunkText) (found : Chunk) → HoldsChunks block volid number chunks
+    → HasAppended start bytes at chunks
+    → ((v n : ℕ) (before after : List ChunkText) → SplitsAt block v n at before after → FindsFirst block at after (Some found))
+    → new ≡ bytes ++ take found.length (drop found.start block) → HasAppended start new found.next chunks
+append_more block start bytes new volid number at chunks found held so_far finds added =
+    append_first block start bytes new at chunks so_far.before so_far.after found so_far.split so_far.stands so_far.are
+    (finds volid number so_far.before so_far.after (splits block start bytes volid number at chunks held so_far)) added
+
+append_last : (block start bytes : List ℕ) (at : ℕ) (chunks before after : List ChunkText) → chunks ≡ before ++ after → bytes ≡ start ++ joined before
+    → FindsFirst block at after None → bytes ≡ start ++ joined chunks
+append_last block start bytes at chunks before [] split are finds =
+    are ∙ ap (λ (all : List ChunkText). start ++ joined all) (sym (split ∙ append-nil before))
+append_last block start bytes at chunks before (chunk ∷ after) split are finds = absurd finds
+
+pub append_ends : (block start bytes : List ℕ) (volid number at : ℕ) (chunks : List ChunkText) → HoldsChunks block volid number chunks
+    → HasAppended start bytes at chunks
+    → ((v n : ℕ) (before after : List ChunkText) → SplitsAt block v n at before after → FindsFirst block at after None) → bytes ≡ start ++ joined chunks
+append_ends block start bytes volid number at chunks held so_far finds =
+    append_last block start bytes at chunks so_far.before so_far.after so_far.split so_far.are
+    (finds volid number so_far.before so_far.after (splits block start bytes volid number at chunks held so_far))
+
+-- where a chunk that is found stands
+pub record IsInside (at : ℕ) (found : Chunk) : Type 0 where
+  pub goes_on : at < found.next
+  pub most : found.next ≤ 4040
+  pub from : 80 ≤ found.start
+  pub to : found.start + found.length ≡ found.next + 56
+
+inside_first : (block : List ℕ) (volid number at : ℕ) (before after : List ChunkText) (found : Chunk) → SplitsAt block volid number at before after
+    → FindsFirst block at after (Some found) → IsInside at found
+inside_first block volid number at before [] found split finds = absurd (cc finds)
+inside_first block volid number at before (chunk ∷ after) found split finds =
+    let long : length (chunks_text (before ++ chunk ∷ after)) ≡ length (chunks_text before) + (24 + length chunk.bytes + length (chunks_text after)) =
+    ap length (flat_map-append chunk_text before (chunk ∷ after)) ∙ length-append (chunks_text before) (chunks_text (chunk ∷ after))
+    ∙ omega (arith, length-append (chunk_text chunk) (chunks_text after), length-chunk_text chunk) in
+    record {
+      goes_on = omega (arith, finds.next);
+      most = omega (arith, finds.next, split.stands, long, split.holds.allowed.fit);
+      from = omega (arith, finds.start);
+      to = omega (arith, finds.next, finds.start, finds.size);
+    }
+
+pub inside : (block : List ℕ) (at : ℕ) (found : Chunk) → IsChunkPlace block at
+    → ((v n : ℕ) (before after : List ChunkText) → SplitsAt block v n at before after → FindsFirst block at after (Some found)) → IsInside at found
+inside block at found place finds =
+    inside_first block place.0 place.1.0 at place.1.1.0 place.1.1.1.0 found place.1.1.1.1
+    (finds place.0 place.1.0 place.1.1.0 place.1.1.1.0 place.1.1.1.1)
+
+-- ---- block by block
+
+-- the first blocks of a file are whole, and these are their bytes
+pub record HasRead (places : List Place) (bytes : List ℕ) (index : ℕ) : Type 0 where
+  pub whole : List (List ChunkText)
+  pub rest : List Place
+  pub split : places ≡ map Whole whole ++ rest
+  pub counted : length whole ≡ index
+  pub are : bytes ≡ joined (all_chunks whole)
+
+pub none_read : (places : List Place) → HasRead places [] 0
+none_read places = record { whole = []; rest = places; split = refl; counted = refl; are = refl }
+
+-- the place behind whole ones
+place_behind : (disk : List ℕ) (volid first : ℕ) (whole : List (List ChunkText)) (place : Place) (rest : List Place)
+    → ArePlaces disk volid first (map Whole whole ++ place ∷ rest) → IsPlace disk volid (first + length whole) place
+place_behind disk volid first [] place rest are =
+    let P : ℕ → Type 0 = λ (number : ℕ). IsPlace disk volid number place in
+    subst P (let same : first ≡ first + 0 = omega arith in same) are.0
+place_behind disk volid first (chunks ∷ whole) place rest are =
+    let P : ℕ → Type 0 = λ (number : ℕ). IsPlace disk volid number place in
+    subst P (let same : first + 1 + length whole ≡ first + suc (length whole) = omega arith in same)
+    (place_behind disk volid (first + 1) whole place rest are.1)
+
+all_more : (whole : List (List ChunkText)) (chunks : List ChunkText) → joined (all_chunks (whole ++ chunks ∷ [])) ≡ joined (all_chunks whole) ++ joined chunks
+all_more [] chunks = ap joined (append-nil chunks)
+all_more (first ∷ whole) chunks =
+    flat_map-append (λ (one : ChunkText). one.bytes) first (all_chunks (whole ++ chunks ∷ []))
+    ∙ ap (λ (t : List ℕ). joined first ++ t) (all_more whole chunks)
+    ∙ sym (append_assoc (joined first) (joined (all_chunks whole)) (joined chunks))
+    ∙ ap (λ (t : List ℕ). t ++ joined chunks) (sym (flat_map-append (λ (one : ChunkText). one.bytes) first (all_chunks whole)))
+
+read_next : (disk : List ℕ) (volid first index : ℕ) (bytes new : List ℕ) (places : List Place) (whole : List (List ChunkText)) (rest : List Place)
+    → places ≡ map Whole whole ++ rest → length whole ≡ index → bytes ≡ joined (all_chunks whole) → index < length places
+    → ArePlaces disk volid first places → (held : (chunks : List ChunkText) × HoldsChunks (block_at disk (first + index)) volid (first + index) chunks)
+    → ((chunks : List ChunkText) → HoldsChunks (block_at disk (first + index)) volid (first + index) chunks → new ≡ bytes ++ joined chunks)
+    → HasRead places new (index + 1)
+read_next disk volid first index bytes new places whole [] split counted are inside places_are held added =
+    absurd (omega (arith, inside, counted, ap length split, length-append (map Whole whole) [], length-map whole Whole))
+read_next disk volid first index bytes new places whole (Damaged ∷ rest) split counted are inside places_are held added =
+    let P : List Place → Type 0 = λ (all : List Place). ArePlaces disk volid first all in
+    let here = place_behind disk volid first whole Damaged rest (subst P split places_are) in
+    let N : ℕ → Type 0 = λ (n : ℕ). IsPlace disk volid (first + n) Damaged in
+    absurd (subst N counted here held.0 held.1)
+read_next disk volid first index bytes new places whole (Whole chunks ∷ rest) split counted are inside places_are held added =
+    let P : List Place → Type 0 = λ (all : List Place). ArePlaces disk volid first all in
+    let N : ℕ → Type 0 = λ (n : ℕ). IsPlace disk volid (first + n) (Whole chunks) in
+    let here = subst N counted (place_behind disk volid first whole (Whole chunks) rest (subst P split places_are)) in
+    record {
+      whole = whole ++ chunks ∷ [];
+      rest = rest;
+      split = split ∙ sym (append_assoc (map Whole whole) (Whole chunks ∷ []) rest) ∙ ap (λ (l : List Place). l ++ rest) (sym (map-append Whole whole (chunks ∷ [])));
+      counted = omega (arith, length-append whole (chunks ∷ []), counted);
+      are = added chunks here ∙ ap (λ (t : List ℕ). t ++ joined chunks) are ∙ sym (all_more whole chunks);
+    }
+
+pub read_more : (disk : List ℕ) (volid first index : ℕ) (bytes new : List ℕ) (places : List Place) → HasRead places bytes index → index < length places
+    → ArePlaces disk volid first places → (chunks : List ChunkText) × HoldsChunks (block_at disk (first + index)) volid (first + index) chunks
+    → ((chunks : List ChunkText) → HoldsChunks (block_at disk (first + index)) volid (first + index) chunks → new ≡ bytes ++ joined chunks)
+    → HasRead places new (index + 1)
+read_more disk volid first index bytes new places so_far inside are held added =
+    read_next disk volid first index bytes new places so_far.whole so_far.rest so_far.split so_far.counted so_far.are inside are held added
+
+damaged_next : (disk : List ℕ) (volid first index : ℕ) (bytes : List ℕ) (places : List Place) (whole : List (List ChunkText)) (rest : List Place)
+    → places ≡ map Whole whole ++ rest → length whole ≡ index → index < length places → ArePlaces disk volid first places
+    → IsPlace disk volid (first + index) Damaged → (more : List Place) × (places ≡ map Whole whole ++ Damaged ∷ more)
+damaged_next disk volid first index bytes places whole [] split counted inside are bad =
+    absurd (omega (arith, inside, counted, ap length split, length-append (map Whole whole) [], length-map whole Whole))
+damaged_next disk volid first index bytes places whole (Damaged ∷ rest) split counted inside are bad = (rest, split)
+damaged_next disk volid first index bytes places whole (Whole chunks ∷ rest) split counted inside are bad =
+    let P : List Place → Type 0 = λ (all : List Place). ArePlaces disk volid first all in
+    let N : ℕ → Type 0 = λ (n : ℕ). IsPlace disk volid (first + n) (Whole chunks) in
+    absurd (bad chunks (subst N counted (place_behind disk volid first whole (Whole chunks) rest (subst P split are))))
+
+pub damaged_first : (disk : List ℕ) (volid index : ℕ) (bytes : List ℕ) (file : CommittedFile) → HasRead file.places bytes index → index < length file.places
+    → ArePlaces disk volid (file.mark + 1) file.places → IsPlace disk volid (file.mark + 1 + index) Damaged → IsFirstDamaged file (file.mark + 1 + index)
+damaged_first disk volid index bytes file so_far within are bad =
+    let found = damaged_next disk volid (file.mark + 1) index bytes file.places so_far.whole so_far.rest so_far.split so_far.counted within are bad in
+    (so_far.whole, (found.0, found.1, omega (arith, so_far.counted)))
+
+all_read : (bytes : List ℕ) (file : CommittedFile) (whole : List (List ChunkText)) (rest : List Place) → file.places ≡ map Whole whole ++ rest
+    → length whole ≡ length file.places → bytes ≡ joined (all_chunks whole) → HasBytes file bytes
+all_read bytes file whole [] split counted are = (whole, split ∙ append-nil (map Whole whole), are)
+all_read bytes file whole (place ∷ rest) split counted are =
+    absurd (omega (arith, counted, ap length split, length-append (map Whole whole) (place ∷ rest), length-map whole Whole))
+
+pub read_whole : (bytes : List ℕ) (file : CommittedFile) (index : ℕ) → HasRead file.places bytes index → index ≡ length file.places → HasBytes file bytes
+read_whole bytes file index so_far ended = all_read bytes file so_far.whole so_far.rest so_far.split (so_far.counted ∙ ended) so_far.are
+
+places_among : (disk : List ℕ) (volid mark end : ℕ) (before : List CommittedFile) (file : CommittedFile) (after : List CommittedFile)
+    → FilesFrom disk volid mark (before ++ file ∷ after) (Closed end) → ArePlaces disk volid (file.mark + 1) file.places
+places_among disk volid mark end [] file after are =
+    let P : ℕ → Type 0 = λ (m : ℕ). ArePlaces disk volid (m + 1) file.places in
+    subst P (sym are.0) are.2
+places_among disk volid mark end (first ∷ before) file after are =
+    places_among disk volid (mark + length first.places + 1) end before file after are.3
+
+-- ---- faults
+
+-- a fault whose count rose behind calls that lower none
+pub data_later : (T U : Type 0) (before mid now : ℕ) (fault : DataFault) → before ≤ mid → DataCause {T = T} mid now (Err fault) → DataCause {T = U} before now (Err fault)
+data_later T U before mid now faults.Memory later cause = tt
+data_later T U before mid now faults.Failed later cause = omega (arith, later, cause)
+data_later T U before mid now (faults.Damaged block) later cause = tt
+
+pub data_given : {T : Type 0} (bytes_of : T → List ℕ) (disk : List ℕ) (volid index : ℕ) (bytes block : List ℕ) (file : CommittedFile) (fault : DataFault)
+    → HasRead file.places bytes index → index < length file.places → ArePlaces disk volid (file.mark + 1) file.places
+    → IsDataRead disk volid (file.mark + 1 + index) block (Err fault) → GivesPlaces bytes_of file (Err fault)
+data_given bytes_of disk volid index bytes block file faults.Memory so_far within are read = tt
+data_given bytes_of disk volid index bytes block file faults.Failed so_far within are read = tt
+data_given bytes_of disk volid index bytes block file (faults.Damaged bad) so_far within are read =
+    let P : ℕ → Type 0 = λ (number : ℕ). IsFirstDamaged file number in
+    subst P (sym read.0) (damaged_first disk volid index bytes file so_far within are read.1)
+
+-- the data places of a file
+pub places_of : (disk : List ℕ) (number : ℕ) (label : Label) (file : CommittedFile) → IsFileOn disk number label file
+    → ArePlaces disk label.volid.0 (file.mark + 1) file.places
+places_of disk number label file on = places_among disk label.volid.0 1 on.mark on.before file on.after on.on.1.1
+
+-- ---- what was put
+
+joined_from : (ssid copy offset : ℕ) (chunks : List ChunkText) (bytes : List ℕ) → JoinFrom ssid copy offset chunks bytes → bytes ≡ joined chunks
+joined_from ssid copy offset [] bytes are = are
+joined_from ssid copy offset (chunk ∷ chunks) bytes are =
+    are.3.1 ∙ ap (λ (t : List ℕ). chunk.bytes ++ t) (joined_from ssid copy (offset + length chunk.bytes) chunks are.3.0 are.3.2)
+
+stood_raw : (cart : ℕ) (before : List ℕ) (label : Label) (files : List CommittedFile) → Stood cart before label files → IsRaw label
+stood_raw cart before label files (inl fresh) =
+    let P : Label → Type 0 = IsRaw in
+    subst P (sym fresh.2.1) (omega arith)
+stood_raw cart before label files (inr old) = old.1.0
+
+-- the file that was put is given back
+pub gains_gives : (cart number : ℕ) (bytes before after : List ℕ) → Gains cart bytes before number after → GivesFile after number bytes
+gains_gives cart number bytes before after gains =
+    let blocks = gains.holds.0 in (
+      gains.label,
+      (
+        gains.file,
+        record {
+          before = gains.files;
+          after = [];
+          mark = gains.end;
+          on = (stood_raw cart before gains.label gains.files gains.stood, gains.stands);
+          counted = sym gains.counted;
+        },
+        (blocks, gains.holds.1, joined_from number 1 0 (all_chunks blocks) bytes gains.holds.2),
+      ),
+    )
+
+-- ---- one file alone
+
+-- the files of a cartridge
+abbrev files_in : Contents → List CommittedFile
+files_in (Labelled label files end) = files
+files_in Unlabelled = []
+files_in BadLabel = []
+
+-- the file behind so many others
+same_place : (before others : List CommittedFile) (file other : CommittedFile) (after more : List CommittedFile) → length before ≡ length others
+    → before ++ file ∷ after ≡ others ++ other ∷ more → file ≡ other
+same_place [] [] file other after more count same = cc same
+same_place [] (second ∷ others) file other after more count same = absurd (omega (arith, count))
+same_place (first ∷ before) [] file other after more count same = absurd (omega (arith, count))
+same_place (first ∷ before) (second ∷ others) file other after more count same =
+    same_place before others file other after more (omega (arith, count)) (cc same)
+
+same_file : (disk : List ℕ) (number : ℕ) (label name : Label) (file other : CommittedFile) → IsFileOn disk number label file → IsFileOn disk number name other → file ≡ other
+same_file disk number label name file other on is =
+    let contents = one_contents disk (Labelled label (on.before ++ file ∷ on.after) (Closed on.mark)) (Labelled name (is.before ++ other ∷ is.after) (Closed is.mark)) on.on.1 is.on.1 in
+    same_place on.before is.before file other on.after is.after (omega (arith, on.counted, is.counted)) (ap files_in contents)
+
+same_blocks : (blocks others : List (List ChunkText)) → map Whole blocks ≡ map Whole others → blocks ≡ others
+same_blocks [] [] same = refl
+same_blocks [] (other ∷ others) same = absurd (omega (arith, ap length same))
+same_blocks (block ∷ blocks) [] same = absurd (omega (arith, ap length same))
+same_blocks (block ∷ blocks) (other ∷ others) same =
+    ap (λ (b : List ChunkText). b ∷ blocks) (cc same) ∙ ap (λ (l : List (List ChunkText)). other ∷ l) (same_blocks blocks others (cc same))
+
+pub gives_alone : (disk : List ℕ) (number : ℕ) (bytes others : List ℕ) → GivesFile disk number bytes → GivesFile disk number others → bytes ≡ others
+gives_alone disk number bytes others one two =
+    let file : one.1.0 ≡ two.1.0 = same_file disk number one.0 two.0 one.1.0 two.1.0 one.1.1 two.1.1 in
+    let blocks = same_blocks one.1.2.0 two.1.2.0 (sym one.1.2.1 ∙ ap (λ (f : CommittedFile). f.places) file ∙ two.1.2.1) in
+    one.1.2.2 ∙ ap (λ (b : List (List ChunkText)). joined (all_chunks b)) blocks ∙ sym two.1.2.2

@@ -1,0 +1,27 @@
+-- A text that is written piece by piece.
+use Rattle.std.proofs.Common.{◌≡◌, ℕ, ◌+◌, List, ◌++◌, length, take, min, Result, Ok, Err, sym, ap, ◌∙◌, append_assoc, arith}
+use Rattle.std.proofs.lemmas.List.{take_min, take-append-le}
+use Rattle.std.proofs.Math.Seq.{take-append-add}
+use Rattle.room_base.specs.Outside.{GainsFront, Writes}
+use Rattle.room_base.specs.declared.fault.Failed.{Failed}
+
+-- a front of the first piece is a front of both
+pub front_of_first : (old new one other : List ℕ) → GainsFront old new one → GainsFront old new (one ++ other)
+front_of_first old new one other gains =
+    let count = min gains.0 (length one) in
+    (count, gains.1 ∙ ap (λ (t : List ℕ). old ++ t) (sym (take_min gains.0 one) ∙ sym (take-append-le count one other (omega arith))))
+
+-- the first piece and a front of the second
+pub front_of_second : (old mid new one other : List ℕ) → mid ≡ old ++ one → GainsFront mid new other → GainsFront old new (one ++ other)
+front_of_second old mid new one other whole gains = (
+  length one + gains.0,
+  gains.1 ∙ ap (λ (t : List ℕ). t ++ take gains.0 other) whole ∙ append_assoc old one (take gains.0 other)
+      ∙ ap (λ (t : List ℕ). old ++ t) (sym (take-append-add one other gains.0)),
+)
+
+-- the second piece behind the first
+pub writes_then : {T : Type 0} (old mid new one other : List ℕ) (answer : Result T Failed) → mid ≡ old ++ one → Writes mid new other answer
+    → Writes old new (one ++ other) answer
+writes_then old mid new one other (Ok done) whole writes =
+    writes ∙ ap (λ (t : List ℕ). t ++ other) whole ∙ append_assoc old one other
+writes_then old mid new one other (Err fault) whole writes = front_of_second old mid new one other whole writes

@@ -1,0 +1,63 @@
+use Rattle.std.proofs.Common.{rules, Vec, Global, Err, ◌≡◌, ◌∙◌, ◌+◌, ℕ, List, sym, ap, subst, arith}
+use Rattle.std.specs.Prelude.{IsTrue}
+use Rattle.volume_block.specs.Chunks.{ChunkText}
+use Rattle.volume_block.specs.Valid.{HoldsChunks}
+use Rattle.volume_store.specs.Committed.{block_at}
+use Rattle.volume_store.specs.Writes.{file_of}
+use Rattle.volume_store.proofs.Walking.{quiet_then}
+use Rattle.room_top.specs.Stages.{DataCause, IsDataRead, GivesPlaces}
+use Rattle.room_top.proofs.GetRuns.{read_more, data_later, data_given}
+use Rattle.room_top.proofs.get.read_places.Goals as goal
+
+pub returns-in_err-read_data-clause-cause : goal.returns-in_err-read_data-clause-cause
+returns-in_err-read_data-clause-cause g c =
+    let file = file_of c.args.cart.0 in
+    let fault = c.in_err-read_data.field-0.0 in
+    let fact : DataCause {T = Vec ℕ Global} ((g.D.Store.view c.args.disk.now).faults file) ((g.D.Store.view c.read_data.new.disk).faults file) (Err fault) =
+    data_later (Unit {0}) (Vec ℕ Global) ((g.D.Store.view c.args.disk.now).faults file) ((g.D.Store.view c.loop-index.disk).faults file)
+    ((g.D.Store.view c.read_data.new.disk).faults file) fault (c.loop-index.invariant.0 file) c.in_err-read_data.ensures.cause in
+    search rules
+
+pub returns-in_err-read_data-clause-given : goal.returns-in_err-read_data-clause-given
+returns-in_err-read_data-clause-given g c = λ told file mark count are.
+    let number = file_of c.args.cart.0 in
+    let index = c.loop-index.index in
+    let old = g.D.Store.view c.args.disk.now in
+    let here = g.D.Store.view c.loop-index.disk in
+    let fault = c.in_err-read_data.field-0.0 in
+    let told_here : IsTrue here.tells = rw c.loop-index.invariant.1 told in
+    let kept : here.reads number ≡ old.reads number = (c.loop-index.invariant.2 told).reads number in
+    let Disk : List ℕ → Type 0 = λ (disk : List ℕ). IsDataRead disk c.args.volid.0 (c.args.place.mark + 1 + index) c.read_data.new.block (Err fault) in
+    let Mark : ℕ → Type 0 = λ (place : ℕ). IsDataRead (old.reads number) c.args.volid.0 (place + 1 + index) c.read_data.new.block (Err fault) in
+    let fact : GivesPlaces {T = Vec ℕ Global} (λ bytes. bytes.items) file (Err fault) =
+    data_given {T = Vec ℕ Global} (λ bytes. bytes.items) (old.reads number) c.args.volid.0 index c.loop-index.bytes.items c.read_data.new.block file fault
+    (c.loop-index.invariant.3 told file mark count are) (omega (arith, c.loop-index-test.true, count)) are
+    (subst Mark mark (subst Disk kept (c.in_err-read_data.ensures.read told_here))) in
+    search rules
+
+pub loop-index-preserved : goal.loop-index-preserved
+loop-index-preserved g c =
+    let number = file_of c.args.cart.0 in
+    let index = c.loop-index.index in
+    let old = g.D.Store.view c.args.disk.now in
+    let here = g.D.Store.view c.loop-index.disk in
+    let new = g.D.Store.view c.read_data.new.disk in (
+      λ other. omega (arith, c.loop-index.invariant.0 other, c.in_ok-read_data.ensures.later other),
+      c.in_ok-read_data.ensures.tells ∙ c.loop-index.invariant.1,
+      λ told. (let told_here : IsTrue here.tells = rw c.loop-index.invariant.1 told in
+          quiet_then old here new (c.loop-index.invariant.2 told) (c.in_ok-read_data.ensures.quiet told_here)),
+      λ told file mark count are.
+          (let told_here : IsTrue here.tells = rw c.loop-index.invariant.1 told in
+          let kept : here.reads number ≡ old.reads number = (c.loop-index.invariant.2 told).reads number in
+          let place : c.args.place.mark + 1 + index ≡ file.mark + 1 + index = ap (λ (m : ℕ). m + 1 + index) mark in
+          let block : c.read_data.new.block ≡ block_at (old.reads number) (file.mark + 1 + index) =
+          c.in_ok-read_data.ensures.read told_here ∙ ap (λ (bytes : List ℕ). block_at bytes (c.args.place.mark + 1 + index)) kept ∙ ap (block_at (old.reads number)) place in
+          let Held : List ℕ → Type 0 = λ (bytes : List ℕ). (chunks : List ChunkText) × HoldsChunks bytes c.args.volid.0 (c.args.place.mark + 1 + index) chunks in
+          let Number : ℕ → Type 0 = λ (n : ℕ). (chunks : List ChunkText) × HoldsChunks (block_at (old.reads number) (file.mark + 1 + index)) c.args.volid.0 n chunks in
+          read_more (old.reads number) c.args.volid.0 (file.mark + 1) index c.loop-index.bytes.items c.append_chunks.new.bytes.items file.places
+          (c.loop-index.invariant.3 told file mark count are) (omega (arith, c.loop-index-test.true, count)) are
+          (subst Number place (subst Held block c.in_ok-read_data.ensures.holds))
+          (λ chunks held.
+          let Block : List ℕ → Type 0 = λ (bytes : List ℕ). HoldsChunks bytes c.args.volid.0 (file.mark + 1 + index) chunks in
+          c.in-Ok-append_chunks.ensures c.args.volid.0 (file.mark + 1 + index) chunks (subst Block (sym block) held))),
+    )

@@ -1,0 +1,134 @@
+use Rattle.std.proofs.Common.{rules, ◌≡◌, ◌∙◌, ℕ, List, length, sym, ap, subst}
+use Rattle.std.specs.Prelude.{IsTrue}
+use Rattle.room_base.specs.Outside.{GainsFront}
+use Rattle.volume_store.specs.Writes.{file_of}
+use Rattle.room_top.specs.Put.{kept_line, number_of, IsSite}
+use Rattle.room_top.specs.Run.{status_of, AreInput, TouchesCartridge, IsKept, LeavesDisk}
+use Rattle.room_top.proofs.PutRuns.{touches, untouched, kept_behind, leaves_quiet_disk, leaves_stored}
+use Rattle.room_top.proofs.put.put.Goals as goal
+
+pub returns-in_err-site-clause-moments : goal.returns-in_err-site-clause-moments
+returns-in_err-site-clause-moments g c = λ told.
+    let input = g.S.Source.view c.args.input.now in
+    let old = g.D.Store.view c.args.disk.now in
+    let new = g.D.Store.view c.find_site.new.disk in
+    let cart = c.args.cart.0 in
+    let quiet = c.in_err-site.ensures.quiet told in
+    leaves_quiet_disk input cart old new (status_of c.from_residual-in_err-site.result) quiet
+    (untouched input old new cart c.in_ok-bytes.bytes.items (λ known. (c.in_ok-bytes.ensures.judged known).0) quiet)
+
+pub returns-in_err-store_file-clause-moments : goal.returns-in_err-store_file-clause-moments
+returns-in_err-store_file-clause-moments g c = λ told.
+    let input = g.S.Source.view c.args.input.now in
+    let old = g.D.Store.view c.args.disk.now in
+    let mid = g.D.Store.view c.find_site.new.disk in
+    let new = g.D.Store.view c.store_file.new.disk in
+    let cart = c.args.cart.0 in
+    let bytes = c.deref.result.now in
+    let site = c.in_ok-site.site in
+    let are : AreInput input bytes = λ known. c.deref.ensures.value ∙ (c.in_ok-bytes.ensures.judged known).0 in
+    let quiet = c.in_ok-site.ensures.quiet told in
+    let told_mid : IsTrue mid.tells = rw c.in_ok-site.ensures.disk_tells told in
+    let touched : TouchesCartridge input cart old new =
+    touches input old mid new cart bytes site are quiet (c.in_ok-site.ensures.settled told) (c.in_ok-site.ensures.judged told)
+    (c.in_err-store_file.ensures.others told_mid) (c.in_err-store_file.ensures.moments told_mid) in
+    let fault = c.in_err-store_file.field-0.0 in
+    let file = file_of cart in
+    let At : List ℕ → Type 0 = λ (disk : List ℕ). IsSite cart disk site in
+    let fact : LeavesDisk input cart old new fault =
+    leaves_stored input cart (number_of site) (mid.faults file) (new.faults file) old mid new bytes fault quiet c.in_err-store_file.ensures.cause
+    (c.in_err-store_file.ensures.stored told_mid (subst At (sym (quiet.reads file)) (c.in_ok-site.ensures.judged told))) touched in
+    search rules
+
+pub returns-in-Ok-write_all-clause-stored : goal.returns-in-Ok-write_all-clause-stored
+returns-in-Ok-write_all-clause-stored g c =
+    let input = g.S.Source.view c.args.input.now in
+    let old = g.D.Store.view c.args.disk.now in
+    let mid = g.D.Store.view c.find_site.new.disk in
+    let new = g.D.Store.view c.store_file.new.disk in
+    let cart = c.args.cart.0 in
+    let bytes = c.deref.result.now in
+    let site = c.in_ok-site.site in
+    let are : AreInput input bytes = λ known. c.deref.ensures.value ∙ (c.in_ok-bytes.ensures.judged known).0 in
+    let kept : IsKept input cart old new bytes (number_of site) = (
+      are,
+      λ told. (let told_mid : IsTrue mid.tells = rw c.in_ok-site.ensures.disk_tells told in
+          kept_behind old mid new cart (number_of site) bytes site (c.in_ok-site.ensures.quiet told) (c.in_ok-site.ensures.judged told)
+          (c.in_ok-store_file.ensures.stored told_mid)),
+    ) in
+    (bytes, (number_of site, kept))
+
+pub returns-in-Ok-write_all-clause-moments : goal.returns-in-Ok-write_all-clause-moments
+returns-in-Ok-write_all-clause-moments g c = λ told.
+    let input = g.S.Source.view c.args.input.now in
+    let old = g.D.Store.view c.args.disk.now in
+    let mid = g.D.Store.view c.find_site.new.disk in
+    let new = g.D.Store.view c.store_file.new.disk in
+    let cart = c.args.cart.0 in
+    let bytes = c.deref.result.now in
+    let site = c.in_ok-site.site in
+    let are : AreInput input bytes = λ known. c.deref.ensures.value ∙ (c.in_ok-bytes.ensures.judged known).0 in
+    let quiet = c.in_ok-site.ensures.quiet told in
+    let told_mid : IsTrue mid.tells = rw c.in_ok-site.ensures.disk_tells told in
+    let touched : TouchesCartridge input cart old new =
+    touches input old mid new cart bytes site are quiet (c.in_ok-site.ensures.settled told) (c.in_ok-site.ensures.judged told)
+    (c.in_ok-store_file.ensures.others told_mid) (c.in_ok-store_file.ensures.moments told_mid) in
+    touched
+
+pub returns-clause-printed : goal.returns-clause-printed
+returns-clause-printed g c = λ told_out.
+    let input = g.S.Source.view c.args.input.now in
+    let old = g.D.Store.view c.args.disk.now in
+    let mid = g.D.Store.view c.find_site.new.disk in
+    let new = g.D.Store.view c.store_file.new.disk in
+    let cart = c.args.cart.0 in
+    let bytes = c.deref.result.now in
+    let site = c.in_ok-site.site in
+    let are : AreInput input bytes = λ known. c.deref.ensures.value ∙ (c.in_ok-bytes.ensures.judged known).0 in
+    let kept : IsKept input cart old new bytes (number_of site) = (
+      are,
+      λ told. (let told_mid : IsTrue mid.tells = rw c.in_ok-site.ensures.disk_tells told in
+          kept_behind old mid new cart (number_of site) bytes site (c.in_ok-site.ensures.quiet told) (c.in_ok-site.ensures.judged told)
+          (c.in_ok-store_file.ensures.stored told_mid)),
+    ) in
+    let size : c.len-2.result ≡ length c.in_ok-bytes.bytes.items = search rules in
+    let line : c.as_bytes.result.now ≡ kept_line (length bytes) (number_of site) cart =
+    c.as_bytes.ensures.value ∙ c.in-Ok.ensures ∙ ap (λ count. kept_line count c.number.result cart) (size ∙ ap length (sym c.deref.ensures.value))
+    ∙ ap (λ number. kept_line (length bytes) number cart) c.number.ensures in
+    let P : List ℕ → Type 0 = GainsFront (g.W.Sink.view c.args.out.now).written (g.W.Sink.view c.write_all.new.sink).written in
+    (bytes, (number_of site, kept, subst P line (c.in-Err.ensures.written told_out)))
+
+pub returns-clause-stored : goal.returns-clause-stored
+returns-clause-stored g c =
+    let input = g.S.Source.view c.args.input.now in
+    let old = g.D.Store.view c.args.disk.now in
+    let mid = g.D.Store.view c.find_site.new.disk in
+    let new = g.D.Store.view c.store_file.new.disk in
+    let cart = c.args.cart.0 in
+    let bytes = c.deref.result.now in
+    let site = c.in_ok-site.site in
+    let are : AreInput input bytes = λ known. c.deref.ensures.value ∙ (c.in_ok-bytes.ensures.judged known).0 in
+    let kept : IsKept input cart old new bytes (number_of site) = (
+      are,
+      λ told. (let told_mid : IsTrue mid.tells = rw c.in_ok-site.ensures.disk_tells told in
+          kept_behind old mid new cart (number_of site) bytes site (c.in_ok-site.ensures.quiet told) (c.in_ok-site.ensures.judged told)
+          (c.in_ok-store_file.ensures.stored told_mid)),
+    ) in
+    (bytes, (number_of site, kept))
+
+pub returns-clause-moments : goal.returns-clause-moments
+returns-clause-moments g c = λ told.
+    let input = g.S.Source.view c.args.input.now in
+    let old = g.D.Store.view c.args.disk.now in
+    let mid = g.D.Store.view c.find_site.new.disk in
+    let new = g.D.Store.view c.store_file.new.disk in
+    let cart = c.args.cart.0 in
+    let bytes = c.deref.result.now in
+    let site = c.in_ok-site.site in
+    let are : AreInput input bytes = λ known. c.deref.ensures.value ∙ (c.in_ok-bytes.ensures.judged known).0 in
+    let quiet = c.in_ok-site.ensures.quiet told in
+    let told_mid : IsTrue mid.tells = rw c.in_ok-site.ensures.disk_tells told in
+    let touched : TouchesCartridge input cart old new =
+    touches input old mid new cart bytes site are quiet (c.in_ok-site.ensures.settled told) (c.in_ok-site.ensures.judged told)
+    (c.in_ok-store_file.ensures.others told_mid) (c.in_ok-store_file.ensures.moments told_mid) in
+    touched

@@ -1,0 +1,32 @@
+-- What is written where errors go.
+use Rattle.std.specs.Prelude.{◌≡◌, ◌⊎◌, List, ◌++◌, codes, ℕ}
+use Rattle.room_base.specs.Faults.{Rose}
+use Rattle.room_base.specs.Outside.{SinkView, GainsFront}
+use Rattle.room_top.specs.declared.status.Status.{Status}
+use Rattle.room_top.specs.declared.status.Status.TheVariants as status
+
+-- a line was written, or a front of it where the count of faults rose
+abbrev pub WritesLine : List ℕ → SinkView → SinkView → Type 0
+WritesLine line old new = (new.written ≡ old.written ++ line) ⊎ (Rose old.faults new.faults × GainsFront old.written new.written line)
+
+-- the line for a word that doesn't fit
+abbrev pub usage_line : List ℕ → List ℕ
+usage_line word = codes "room: usage " ++ (word ++ codes "\n")
+
+-- the line of a refusal, which ends with this text
+abbrev pub refusal_line : List ℕ → List ℕ
+refusal_line text = codes "room: refused" ++ text
+
+abbrev pub ReportsRefusal : SinkView → SinkView → Type 0
+ReportsRefusal old new = (text : List ℕ) × WritesLine (refusal_line text) old new
+
+-- what is written for a status: the line that names it, and nothing where all was done
+abbrev pub Reports : Status → SinkView → SinkView → Type 0
+Reports status.Done old new = new.written ≡ old.written
+Reports (status.Usage word) old new = WritesLine (usage_line word) old new
+Reports status.Memory old new = WritesLine (codes "room: memory\n") old new
+Reports status.ReadFault old new = WritesLine (codes "room: read fault\n") old new
+Reports status.WriteFault old new = WritesLine (codes "room: write fault\n") old new
+Reports status.DiskFault old new = WritesLine (codes "room: disk fault\n") old new
+Reports status.ClockFault old new = WritesLine (codes "room: clock fault\n") old new
+Reports (status.Refused refusal) old new = ReportsRefusal old new
