@@ -1,6 +1,6 @@
 //! A file's blocks in memory, while they are filled.
 
-ghost use Rattle.std.specs.Prelude.{◌≡◌, ◌+◌, ◌-◌, ◌*◌, ◌≤◌, ◌<◌, ◌^◌, ◌++◌, ◌∷◌, ◌↔◌, [], List, ℕ, length, take, drop, IfOk, IsTrue};
+ghost use Rattle.std.specs.Prelude.{◌≡◌, ◌+◌, ◌-◌, ◌*◌, ◌≤◌, ◌<◌, ◌^◌, ◌++◌, ◌∷◌, ◌↔◌, [], List, length, drop, IfOk, IsTrue};
 ghost use Rattle.volume_block.specs.Chunks.{ChunkText, chunk_head};
 ghost use Rattle.volume_block.specs.Region.{AreBlocks, IsSealed};
 ghost use Rattle.chunk_mux.specs.Text.{used_text};

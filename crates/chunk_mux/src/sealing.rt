@@ -1,6 +1,6 @@
 //! Makes the region of a commit of blocks that are filled.
 
-ghost use Rattle.std.specs.Prelude.{◌≡◌, ◌+◌, ◌≤◌, ◌<◌, ◌^◌, List, ℕ, length, drop, All};
+ghost use Rattle.std.specs.Prelude.{◌≡◌, ◌+◌, ◌≤◌, ◌<◌, ◌^◌, List, length, drop, All};
 ghost use Rattle.volume_block.specs.Chunks.{ChunkText};
 ghost use Rattle.volume_block.specs.Layout.{closed};
 ghost use Rattle.volume_block.specs.Valid.{IsCount, mark_text};

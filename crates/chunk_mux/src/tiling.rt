@@ -1,6 +1,6 @@
 //! Whether the chunks of a copy make a whole stream.
 
-ghost use Rattle.std.specs.Prelude.{◌≡◌, ◌+◌, ◌≤◌, ◌<◌, ◌^◌, All, length};
+ghost use Rattle.std.specs.Prelude.{◌≡◌, ◌+◌, ◌<◌, All, length};
 ghost use Rattle.std.specs.List.Sorted.{IsPermutation, IsSorted};
 ghost use Rattle.chunk_mux.specs.Tiles.{IsInStream, place_order, tiling_from};
 

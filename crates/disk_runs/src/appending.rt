@@ -1,6 +1,6 @@
-ghost use Rattle.std.specs.Prelude.{◌≡◌, ◌<◌, ◌^◌, [], length, OnOk};
+ghost use Rattle.std.specs.Prelude.{◌≡◌, ◌<◌, [], OnOk};
 ghost use Rattle.room_base.specs.Outside.{Told};
-ghost use Rattle.room_disk.specs.Disk.{Others, Settled, Leaves, OnFile};
+ghost use Rattle.room_disk.specs.Disk.{Settled, Leaves, OnFile};
 ghost use Rattle.disk_runs.specs.Runs.{IsFrontAndOne};
 
 use room_base::Failed;

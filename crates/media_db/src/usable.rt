@@ -1,6 +1,6 @@
 //! Which record a later save can stand on.
 
-ghost use Rattle.std.specs.Prelude.{◌≡◌, ◌↔◌, ◌<◌, IsTrue, List, ℕ};
+ghost use Rattle.std.specs.Prelude.{◌≡◌, ◌↔◌, ◌<◌, IsTrue};
 ghost use Rattle.media_db.specs.Rows.{AreRecords, HasLowerBase};
 ghost use Rattle.media_db.specs.Usable.{HasDoneCopy, CanBeBase, IsLastBase, IsReady, Usable};
 

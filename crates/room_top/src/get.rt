@@ -1,8 +1,8 @@
-ghost use Rattle.std.specs.Prelude.{◌≡◌, ◌⊎◌, ◌++◌, ◌+◌, ◌≤◌, ◌<◌, ◌^◌, ℕ, List, length, take, drop, IfOk, OnOk};
+ghost use Rattle.std.specs.Prelude.{◌≡◌, ◌++◌, ◌+◌, ◌≤◌, ◌<◌, ◌^◌, ℕ, List, length, take, drop, IfOk, OnOk};
 ghost use Rattle.room_base.specs.Outside.{Told};
 ghost use Rattle.room_disk.specs.Disk.{Quiet};
 ghost use Rattle.volume_block.specs.Chunks.{ChunkText};
-ghost use Rattle.volume_block.specs.Valid.{IsLabel, HoldsChunks};
+ghost use Rattle.volume_block.specs.Valid.{HoldsChunks};
 ghost use Rattle.volume_store.specs.Committed.{CommittedFile, HasLabel, ArePlaces};
 ghost use Rattle.volume_store.specs.Writes.{file_of, IsCart};
 ghost use Rattle.room_top.specs.Raw.{IsRaw, joined};

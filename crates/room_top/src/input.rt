@@ -1,4 +1,4 @@
-ghost use Rattle.std.specs.Prelude.{◌≡◌, ◌≤◌, ◌<◌, ◌++◌, [], length, take, drop, IfOk, OnErr, vec_len};
+ghost use Rattle.std.specs.Prelude.{◌≡◌, ◌≤◌, ◌<◌, [], length, take, IfOk, vec_len};
 ghost use Rattle.room_base.specs.Faults.{HasCause};
 ghost use Rattle.room_base.specs.Outside.{Told};
 ghost use Rattle.room_top.specs.Put.{HasSize};

@@ -1,4 +1,4 @@
-ghost use Rattle.std.specs.Prelude.{◌≡◌, ◌⊎◌, ◌+◌, ◌≤◌, ℕ, [], List, length, OnOk};
+ghost use Rattle.std.specs.Prelude.{◌≡◌, ◌+◌, ◌≤◌, ℕ, [], List, length, OnOk};
 ghost use Rattle.room_base.specs.Outside.{Told};
 ghost use Rattle.room_disk.specs.Disk.{Others, Settled, Leaves, OnFile, FileCause};
 ghost use Rattle.volume_block.specs.Chunks.{ChunkText};

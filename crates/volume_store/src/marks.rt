@@ -2,11 +2,11 @@
 
 ghost use Rattle.std.specs.Prelude.{◌≡◌, ◌≢◌, ◌+◌, ◌*◌, ◌-◌, ◌≤◌, ◌<◌, ◌^◌, Some, None, length, slice_index, IfOk};
 ghost use Rattle.room_base.specs.Outside.{Told};
-ghost use Rattle.room_disk.specs.Disk.{Quiet, FileCause, Settled};
+ghost use Rattle.room_disk.specs.Disk.{Quiet, FileCause};
 ghost use Rattle.volume_block.specs.Valid.{IsLabel};
 ghost use Rattle.volume_store.specs.Committed.{block_at};
 ghost use Rattle.volume_store.specs.Writes.{file_of, IsCart};
-ghost use Rattle.volume_store.specs.Reads.{FindsMark, HasCount, HasWalked, Walks, HasRange, WalkCause, Mounts, MountCause, SettlesUnlessFailed};
+ghost use Rattle.volume_store.specs.Reads.{FindsMark, HasCount, Walks, HasRange, WalkCause, Mounts, MountCause, SettlesUnlessFailed};
 
 use crate::commit::Volume;
 use crate::label::{Found, read_label};
