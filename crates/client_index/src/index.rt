@@ -67,6 +67,7 @@ impl ClientIndex {
         requires room { (0 < self.old.room) ⊎ IsSome (entries_of self.old.sets ssid) }
         ensures sets { self.new.sets ≡ put self.old.sets (record { ssid = ssid; entries = entries.items }) }
         ensures room { self.old.room ≤ self.new.room + 1 }
+        ensures in_place { IsSome (entries_of self.old.sets ssid) → self.old.room ≤ self.new.room }
     {
         let set = SetIndex {
             ssid,

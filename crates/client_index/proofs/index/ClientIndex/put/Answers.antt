@@ -36,3 +36,8 @@ returns-in-Err-clause-sets c =
     let is = ap (λ (index : Indexes). index.sets) c.self.view_is in
     let place = rw (← is) at c.in-Err.ensures in
     rw (c.insert_in_room.ensures.items, c.of.ensures, ← is) (put_between _ (record { ssid = c.args.ssid; entries = c.args.entries.items }) c.in-Err.at place)
+
+pub returns-in-Err-clause-in_place : goal.returns-in-Err-clause-in_place
+returns-in-Err-clause-in_place c = λ has.
+    let is = ap (λ (index : Indexes). index.sets) c.self.view_is in
+    absurd (none_there _ (no_entries _ _ c.in-Err.at (subst AreOrdered is c.self.invariant) c.in-Err.ensures) has)
