@@ -7,7 +7,7 @@ ghost use Rattle.chunk_mux.specs.Text.{used_text};
 ghost use Rattle.chunk_mux.specs.Packing.{Fits, pack, first_used, room_in, payload_size, chunk_size, chunk_of, add_last};
 
 use crate::Span;
-use crate::sealing::seal_region;
+use crate::sealing::make_region;
 use room_base::{CopyNo, Memory, Ssid, Volid};
 use std::alloc::Global;
 use std::marker::Model;
@@ -121,7 +121,7 @@ impl MuxBuffer {
         ensures sealed { IsSealed volid.0 mark self.old result.now }
     {
         let used = &self.used[..self.begun];
-        seal_region(volid, mark, used, &mut self.blocks);
+        make_region(volid, mark, used, &mut self.blocks);
         self.blocks[..self.begun + 2].as_flattened()
     }
 

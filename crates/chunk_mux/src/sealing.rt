@@ -12,7 +12,7 @@ use volume_block::{BLOCK_SIZE, encode_mark, seal_data};
 
 /// Makes the first blocks the region for a volume and a mark place: a closed mark, the data blocks,
 /// of whose payloads so many bytes are used, and a closed block.
-pub(crate) fn seal_region(volid: Volid, mark: u64, used: &[u32], blocks: &mut [[u8; BLOCK_SIZE]])
+pub(crate) fn make_region(volid: Volid, mark: u64, used: &[u32], blocks: &mut [[u8; BLOCK_SIZE]])
     requires volid { 1 ≤ volid.0 }
     requires mark { (1 ≤ mark) × (mark < 2 ^ 32) }
     requires count { (1 ≤ length used.now) × (length used.now ≤ 64) }
@@ -24,7 +24,7 @@ pub(crate) fn seal_region(volid: Volid, mark: u64, used: &[u32], blocks: &mut [[
     let count = used.len();
     let (front, data) = blocks.split_at_mut(1);
     write_mark(volid, mark, count as u32, &mut front[0]);
-    seal_blocks(volid, mark + 1, used, data);
+    make_data_blocks(volid, mark + 1, used, data);
     data[count] = [0; BLOCK_SIZE];
 }
 
@@ -41,7 +41,7 @@ fn write_mark(volid: Volid, mark: u64, count: u32, block: &mut [u8])
 }
 
 // Makes the first blocks data blocks, numbered from `first` on.
-fn seal_blocks(volid: Volid, first: u64, used: &[u32], blocks: &mut [[u8; BLOCK_SIZE]])
+fn make_data_blocks(volid: Volid, first: u64, used: &[u32], blocks: &mut [[u8; BLOCK_SIZE]])
     requires volid { 1 ≤ volid.0 }
     requires first { (1 ≤ first) × (first ≤ 2 ^ 32) }
     requires count { (length used.now ≤ length blocks.old) × (length used.now ≤ 64) }

@@ -6,10 +6,10 @@ use Rattle.std.proofs.lemmas.List.{append-nil, append_assoc}
 use Rattle.media_db.specs.declared.records.Record.{Record}
 use Rattle.media_db.specs.Keyed.{AscendsBy}
 use Rattle.media_db.specs.Rows.{AreRecords, HasLowerBase, find_record, ssid_of}
-use Rattle.media_db.specs.Usable.{IsReady, Usable, alone, based, CanBeBase, IsLastBase}
+use Rattle.media_db.specs.Usable.{IsRestorable, Usable, alone, based, CanBeBase, IsLastBase}
 use Rattle.media_db.proofs.Keyed.{all_weaker, all_found, all_middle, found_has_key, less_before, middle_found, found_behind}
 
-pub usable_ready : {rows : List Record} {row : Record} → Usable rows row → IsReady row
+pub usable_ready : {rows : List Record} {row : Record} → Usable rows row → IsRestorable row
 usable_ready (alone row ready none) = ready
 usable_ready (based row base ready found more) = ready
 

@@ -12,15 +12,15 @@ abbrev pub HasDoneCopy : Record → Type 0
 HasDoneCopy row = Any (λ copy. copy.state ≡ Done) row.copies
 
 -- a record is complete, not purged, and has a done copy
-pub record IsReady (row : Record) : Type 0 where
+pub record IsRestorable (row : Record) : Type 0 where
   pub complete : row.state ≡ Complete
   pub kept : row.purged ≡ false
   pub copied : HasDoneCopy row
 
 -- a record is usable where it is ready and stands alone or on a usable one
 pub data Usable (rows : List Record) : Record → Type 0 where
-  alone : (row : Record) → IsReady row → row.base.0 ≡ 0 → Usable rows row
-  based : (row base : Record) → IsReady row → find_record row.base.0 rows ≡ Some base → Usable rows base → Usable rows row
+  alone : (row : Record) → IsRestorable row → row.base.0 ≡ 0 → Usable rows row
+  based : (row base : Record) → IsRestorable row → find_record row.base.0 rows ≡ Some base → Usable rows base → Usable rows row
 
 -- a usable record of this client and set whose level has a rank below the given one
 pub record CanBeBase (rows : List Record) (client set : List ℕ) (below : ℕ) (row : Record) : Type 0 where

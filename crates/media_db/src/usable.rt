@@ -2,7 +2,7 @@
 
 ghost use Rattle.std.specs.Prelude.{◌≡◌, ◌↔◌, ◌<◌, IsTrue};
 ghost use Rattle.media_db.specs.Rows.{AreRecords, HasLowerBase};
-ghost use Rattle.media_db.specs.Usable.{HasDoneCopy, CanBeBase, IsLastBase, IsReady, Usable};
+ghost use Rattle.media_db.specs.Usable.{HasDoneCopy, CanBeBase, IsLastBase, IsRestorable, Usable};
 
 use crate::place::find_record_in;
 use crate::{CopyState, Record, RecordState};
@@ -62,7 +62,7 @@ fn is_usable(records: &[Record], row: &Record) -> bool
 
 // The record is complete, not purged, and has a done copy.
 fn is_ready(row: &Record) -> bool
-    ensures { IsTrue result ↔ IsReady row.now }
+    ensures { IsTrue result ↔ IsRestorable row.now }
 {
     row.state == RecordState::Complete && !row.purged && has_done_copy(row)
 }

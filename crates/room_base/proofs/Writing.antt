@@ -2,7 +2,7 @@
 use Rattle.std.proofs.Common.{◌≡◌, ℕ, ◌+◌, List, ◌++◌, take, drop, ap, sym, ◌∙◌}
 use Rattle.std.proofs.lemmas.List.{append_assoc}
 use Rattle.std.proofs.Math.Seq.{take-add}
-use Rattle.room_base.specs.Outside.{GainsFront}
+use Rattle.room_base.specs.Outside.{AddsFront}
 
 -- a front of the piece, and then a front of its rest
 pub more_written : (start mid new piece : List ℕ) (done count : ℕ) → mid ≡ start ++ take done piece
@@ -12,7 +12,7 @@ more_written start mid new piece done count before after =
     ∙ append_assoc start (take done piece) (take count (drop done piece))
     ∙ ap (λ w. start ++ w) (sym (take-add done count piece))
 
-pub front_gained : (start mid new piece : List ℕ) (done : ℕ) → mid ≡ start ++ take done piece
-    → GainsFront mid new (drop done piece) → GainsFront start new piece
-front_gained start mid new piece done before gained =
+pub front_added : (start mid new piece : List ℕ) (done : ℕ) → mid ≡ start ++ take done piece
+    → AddsFront mid new (drop done piece) → AddsFront start new piece
+front_added start mid new piece done before gained =
     (done + gained.0, more_written start mid new piece done gained.0 before gained.1)

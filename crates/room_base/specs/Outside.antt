@@ -35,23 +35,23 @@ pub record Moves (old new : SourceView) (into : List ℕ) (count : ℕ) : Type 0
   pub ended : 0 < length into → count ≡ 0 → old.left ≡ []
 
 -- what a take did: nothing, where it failed
-abbrev pub Takes : SourceView → SourceView → List ℕ → Result ℕ Failed → Type 0
-Takes old new into (Ok count) = Moves old new into count
-Takes old new into (Err _) = (new.taken ≡ old.taken) × (new.left ≡ old.left)
+abbrev pub TakesBytes : SourceView → SourceView → List ℕ → Result ℕ Failed → Type 0
+TakesBytes old new into (Ok count) = Moves old new into count
+TakesBytes old new into (Err _) = (new.taken ≡ old.taken) × (new.left ≡ old.left)
 
 -- some first bytes of the piece were added
-abbrev pub GainsFront : List ℕ → List ℕ → List ℕ → Type 0
-GainsFront old new piece = (count : ℕ) × (new ≡ old ++ take count piece)
+abbrev pub AddsFront : List ℕ → List ℕ → List ℕ → Type 0
+AddsFront old new piece = (count : ℕ) × (new ≡ old ++ take count piece)
 
 -- what a put did: it added as many first bytes as it answers, or some where it failed
 abbrev pub Puts : List ℕ → List ℕ → List ℕ → Result ℕ Failed → Type 0
 Puts old new piece (Ok count) = new ≡ old ++ take count piece
-Puts old new piece (Err _) = GainsFront old new piece
+Puts old new piece (Err _) = AddsFront old new piece
 
 -- what a writing of the whole piece did
 abbrev pub Writes : {T : Type 0} → List ℕ → List ℕ → List ℕ → Result T Failed → Type 0
 Writes old new piece (Ok _) = new ≡ old ++ piece
-Writes old new piece (Err _) = GainsFront old new piece
+Writes old new piece (Err _) = AddsFront old new piece
 
 -- the moments after the first was answered: the last one stays
 abbrev pub later_moments : List Moment → List Moment

@@ -21,8 +21,8 @@ abbrev pub IsPathText : List ℕ → Type 0
 IsPathText bytes = IsUtf8 bytes × (slice_get bytes 0 ≡ Some 0x2F)
 
 -- A text is read exactly where it has a length and a form that are allowed. The length is judged first.
-abbrev pub Reads : (List ℕ → Type 0) → (List ℕ → Type 0) → List ℕ → Result (List ℕ) NameFault → Type 0
-Reads Fits IsText bytes (Ok name) = (name ≡ bytes) × Fits bytes × IsText bytes
-Reads Fits IsText bytes (Err Length) = ¬ (Fits bytes)
-Reads Fits IsText bytes (Err NotText) = Fits bytes × ¬ (IsText bytes)
-Reads Fits IsText bytes (Err Memory) = Unit {0}
+abbrev pub ReadsText : (List ℕ → Type 0) → (List ℕ → Type 0) → List ℕ → Result (List ℕ) NameFault → Type 0
+ReadsText IsSized IsText bytes (Ok name) = (name ≡ bytes) × IsSized bytes × IsText bytes
+ReadsText IsSized IsText bytes (Err Length) = ¬ (IsSized bytes)
+ReadsText IsSized IsText bytes (Err NotText) = IsSized bytes × ¬ (IsText bytes)
+ReadsText IsSized IsText bytes (Err Memory) = Unit {0}

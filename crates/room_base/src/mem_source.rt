@@ -1,6 +1,6 @@
 ghost use Rattle.std.specs.Prelude.{◌≡◌, ◌≤◌, ◌↔◌, [], length, min, take, IfOk, IsErr};
 ghost use Rattle.room_base.specs.Faults.{HasCause};
-ghost use Rattle.room_base.specs.Outside.{Takes};
+ghost use Rattle.room_base.specs.Outside.{TakesBytes};
 ghost use Rattle.room_base.specs.Calls.{FailsNext, called, faults_after, told_source};
 
 use crate::calls::{CallCount, risen_count};
@@ -61,7 +61,7 @@ impl Source for MemSource {
     fn take(&mut self, into: &mut [u8]) -> Result<u64, Failed>
         ensures within { IfOk result (λ count. count ≤ length into.old) }
         ensures cause { HasCause self.old.faults self.new.faults result }
-        ensures moved { Takes (told_source self.old) (told_source self.new) into.new result }
+        ensures moved { TakesBytes (told_source self.old) (told_source self.new) into.new result }
         ensures fails { IsErr result ↔ FailsNext self.old.calls }
         ensures calls { self.new.calls ≡ called self.old.calls }
         ensures faults { self.new.faults ≡ faults_after result self.old.faults }

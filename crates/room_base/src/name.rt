@@ -1,6 +1,6 @@
 ghost use Rattle.std.specs.Prelude.{◌≡◌, [], IfOk};
 ghost use Rattle.std.specs.Str.{IsUtf8};
-ghost use Rattle.room_base.specs.Text.{Reads, IsName, HasLength, IsPathText};
+ghost use Rattle.room_base.specs.Text.{ReadsText, IsName, HasLength, IsPathText};
 
 use crate::Memory;
 use crate::text::{MAX_PATH, name_text, path_text};
@@ -49,7 +49,7 @@ impl Model for Name {
 impl Name {
     /// Reads a name: a text without control characters, of 1 to `most` bytes.
     pub fn read(alloc: Global, bytes: &[u8], most: u32) -> Result<Name, NameFault>
-        ensures { Reads (HasLength most) IsName bytes.now result }
+        ensures { ReadsText (HasLength most) IsName bytes.now result }
     {
         if bytes.is_empty() || bytes.len() > most as usize {
             return Err(NameFault::Length);
@@ -64,7 +64,7 @@ impl Name {
 
     /// Reads a path: a text of 1 to 1,024 bytes that begins with `/`.
     pub fn path(alloc: Global, bytes: &[u8]) -> Result<Name, NameFault>
-        ensures { Reads (HasLength 1024) IsPathText bytes.now result }
+        ensures { ReadsText (HasLength 1024) IsPathText bytes.now result }
     {
         if bytes.is_empty() || bytes.len() > MAX_PATH {
             return Err(NameFault::Length);

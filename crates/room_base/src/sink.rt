@@ -25,7 +25,7 @@ pub trait Sink {
         ensures alone { puts_alone self.old self.new };
 }
 
-#[tactic(auto, using(crate::proofs::Writing::more_written, crate::proofs::Writing::front_gained))]
+#[tactic(auto, using(crate::proofs::Writing::more_written, crate::proofs::Writing::front_added))]
 /// Writes the whole piece. After `Failed` a front of it has been written. Takes no memory.
 pub fn write_all<W: Sink>(sink: &mut W, bytes: &[u8]) -> Result<(), Failed>
     ensures cause { HasCause (W.view sink.old).faults (W.view sink.new).faults result }

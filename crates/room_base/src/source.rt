@@ -1,6 +1,6 @@
 ghost use Rattle.std.specs.Prelude.{◌≡◌, ◌≤◌, length, IfOk};
 ghost use Rattle.room_base.specs.Faults.{HasCause};
-ghost use Rattle.room_base.specs.Outside.{SourceView, Told, Takes};
+ghost use Rattle.room_base.specs.Outside.{SourceView, Told, TakesBytes};
 
 use crate::Failed;
 
@@ -19,6 +19,6 @@ pub trait Source {
         ensures within { IfOk result (λ count. count ≤ length into.old) }
         ensures cause { HasCause (view self.old).faults (view self.new).faults result }
         ensures tells { (view self.new).tells ≡ (view self.old).tells }
-        ensures moved { Told (view self.old).tells (Takes (view self.old) (view self.new) into.new result) }
+        ensures moved { Told (view self.old).tells (TakesBytes (view self.old) (view self.new) into.new result) }
         ensures alone { takes_alone self.old self.new };
 }

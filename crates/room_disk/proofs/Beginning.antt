@@ -16,7 +16,7 @@ no_fault : (file : ℕ) → faults_on no_faults file ≡ 0
 unfolding no_faults
 no_fault file = all_same 259 (count_place file) 0
 
-pub begins_blank : (store : StoreInMemory) → store.past ≡ record { first = []; deeds = [] } → store.faults ≡ no_faults → IsBlank (told_store store)
+pub begins_blank : (store : StoreInMemory) → store.past ≡ record { first = []; events = [] } → store.faults ≡ no_faults → IsBlank (told_store store)
 begins_blank store blank faults =
     rw blank (record {
       tells = refl;

@@ -2,8 +2,8 @@
 use Rattle.std.proofs.Common.{◌≡◌, ℕ, ◌-◌, ◌/◌, ◌≤◌, List, [], ◌∷◌, ◌++◌, length, get_or, take, replicate, refl, sym, ap, subst, ◌∙◌, arith, inl, inr, length-take}
 use Rattle.std.proofs.lemmas.List.{places, length-replicate, get_or-replicate}
 use Rattle.std.proofs.lemmas.Bool.Decides.{eqb_tells}
-use Rattle.room_disk.specs.declared.deed.Deed.{Deed}
-use Rattle.room_disk.specs.declared.deed.Deed.TheVariants.{Written, Cut, Synced}
+use Rattle.room_disk.specs.declared.disk_event.DiskEvent.{DiskEvent}
+use Rattle.room_disk.specs.declared.disk_event.DiskEvent.TheVariants.{Written, Cut, Synced}
 use Rattle.room_disk.specs.declared.part.Part.{Part}
 use Rattle.room_disk.specs.declared.part.Part.TheVariants.{Nothing, All, Spoiled, FirstHalf}
 use Rattle.room_disk.specs.Crash.{overlaid, Torn, CutShort, IsGateLetter}
@@ -89,7 +89,7 @@ part_cut All to old = whole_cut to old
 part_cut Spoiled to old = spoiled_cut to old
 part_cut FirstHalf to old = whole_cut to old
 
-pub may_leave_crashed : (part : Part) (first : Image) (deeds : List Deed) (file : ℕ) → MayLeave first deeds file (crashed_file part first deeds file)
+pub may_leave_crashed : (part : Part) (first : Image) (events : List DiskEvent) (file : ℕ) → MayLeave first events file (crashed_file part first events file)
 may_leave_crashed part first [] file = refl
 may_leave_crashed part first (Written other at bytes ∷ older) file =
     let before = crashed_file part first older file in

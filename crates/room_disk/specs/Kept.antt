@@ -1,7 +1,7 @@
--- How a store in memory keeps its files: in room that is never given back, beside the deeds.
+-- How a store in memory keeps its files: in room that is never given back, beside the events.
 use Rattle.std.specs.Prelude.{◌≡◌, ◌≢◌, ◌==◌, ℕ, ◌+◌, ◌<◌, ◌≤◌, List, [], ◌∷◌, length, slice_index_or, if◌then◌else◌}
-use Rattle.room_disk.specs.declared.deed.Deed.{Deed}
-use Rattle.room_disk.specs.declared.deed.Deed.TheVariants.{Written, Cut, Synced}
+use Rattle.room_disk.specs.declared.disk_event.DiskEvent.{DiskEvent}
+use Rattle.room_disk.specs.declared.disk_event.DiskEvent.TheVariants.{Written, Cut, Synced}
 use Rattle.room_disk.specs.declared.mem_file.MemFile.{MemFile}
 use Rattle.room_disk.specs.Held.{blank}
 use Rattle.room_disk.specs.Disk.{Image}
@@ -12,9 +12,9 @@ abbrev pub blank_file : ℕ → MemFile
 blank_file file = record { number = file; first = blank; now = blank }
 
 -- the first file with the number, or a blank one
-abbrev pub file_of : ℕ → List MemFile → MemFile
-file_of file [] = blank_file file
-file_of file (one ∷ rest) = if one.number == file then one else file_of file rest
+abbrev pub kept_file : ℕ → List MemFile → MemFile
+kept_file file [] = blank_file file
+kept_file file (one ∷ rest) = if one.number == file then one else kept_file file rest
 
 -- the number and the bytes, unless there are none
 abbrev pub with_bytes : ℕ → List ℕ → List (ℕ × List ℕ) → List (ℕ × List ℕ)
@@ -27,23 +27,23 @@ first_bytes [] = []
 first_bytes (one ∷ rest) = with_bytes one.number one.first.bytes (first_bytes rest)
 
 -- each write on the file lies within the room
-abbrev pub Fits : ℕ → ℕ → List Deed → Type 0
-Fits room file [] = Unit {0}
-Fits room file (Written other at bytes ∷ older) = (other ≡ file → at + length bytes ≤ room) × Fits room file older
-Fits room file (Cut other to ∷ older) = Fits room file older
-Fits room file (Synced other ∷ older) = Fits room file older
+abbrev pub LieWithin : ℕ → ℕ → List DiskEvent → Type 0
+LieWithin room file [] = Unit {0}
+LieWithin room file (Written other at bytes ∷ older) = (other ≡ file → at + length bytes ≤ room) × LieWithin room file older
+LieWithin room file (Cut other to ∷ older) = LieWithin room file older
+LieWithin room file (Synced other ∷ older) = LieWithin room file older
 
 -- A file as it is kept: what it read at first, what it reads now, and room for what it ever had.
-pub record IsKept (base : Image) (deeds : List Deed) (file : ℕ) (kept : MemFile) : Type 0 where
+pub record IsFileKept (base : Image) (events : List DiskEvent) (file : ℕ) (kept : MemFile) : Type 0 where
   pub number : kept.number ≡ file
   pub first : kept.first.bytes ≡ base file
-  pub now : kept.now.bytes ≡ read_after base deeds file
+  pub now : kept.now.bytes ≡ read_after base events file
   pub within : length kept.first.bytes ≤ kept.now.room
   pub room : kept.now.room ≤ kept.first.room
-  pub fits : Fits kept.now.room file deeds
+  pub fits : LieWithin kept.now.room file events
 
-abbrev pub AreKept : List (ℕ × List ℕ) → List Deed → List MemFile → Type 0
-AreKept first deeds files = (file : ℕ) → IsKept (listed first) deeds file (file_of file files)
+abbrev pub AreKept : List (ℕ × List ℕ) → List DiskEvent → List MemFile → Type 0
+AreKept first events files = (file : ℕ) → IsFileKept (listed first) events file (kept_file file files)
 
 -- no file has the number
 abbrev pub NoneHas : ℕ → List MemFile → Type 0
@@ -55,8 +55,8 @@ IsDistinct [] = Unit {0}
 IsDistinct (one ∷ rest) = NoneHas one.number rest × IsDistinct rest
 
 -- how a store in memory keeps its files
-pub record IsKeptWhole (first : List (ℕ × List ℕ)) (deeds : List Deed) (files : List MemFile) : Type 0 where
-  pub each : AreKept first deeds files
+pub record AreFilesKept (first : List (ℕ × List ℕ)) (events : List DiskEvent) (files : List MemFile) : Type 0 where
+  pub each : AreKept first events files
   pub distinct : IsDistinct files
 
 -- the file reads as before, and has no less room
@@ -75,14 +75,14 @@ pub record IsFirst (file : ℕ) (files : List MemFile) (index : ℕ) : Type 0 wh
 
 -- the same files under each number, which read the same at first
 pub record HasSameFiles (old new : List MemFile) : Type 0 where
-  pub each : (number : ℕ) → file_of number new ≡ file_of number old
+  pub each : (number : ℕ) → kept_file number new ≡ kept_file number old
   pub first : first_bytes new ≡ first_bytes old
 
 -- each file reads as before, and has no less room
 pub record HasGrownFiles (old new : List MemFile) : Type 0 where
-  pub each : (number : ℕ) → HasGrown (file_of number old) (file_of number new)
+  pub each : (number : ℕ) → HasGrown (kept_file number old) (kept_file number new)
   pub first : first_bytes new ≡ first_bytes old
 
 -- what a file read at first has no less room than what it reads now
 abbrev pub HasRoomBehind : List MemFile → Type 0
-HasRoomBehind files = (number : ℕ) → (file_of number files).now.room ≤ (file_of number files).first.room
+HasRoomBehind files = (number : ℕ) → (kept_file number files).now.room ≤ (kept_file number files).first.room

@@ -2,8 +2,8 @@
 use Rattle.std.proofs.Common.{◌≡◌, ◌≢◌, ◌==◌, ℕ, ◌≤◌, List, [], ◌∷◌, length, take, if◌then◌else◌, refl, arith, inl, inr, true}
 use Rattle.std.proofs.lemmas.List.{places}
 use Rattle.std.proofs.lemmas.Bool.Decides.{eqb_tells}
-use Rattle.room_disk.specs.declared.deed.Deed.{Deed}
-use Rattle.room_disk.specs.declared.deed.Deed.TheVariants.{Written, Cut, Synced}
+use Rattle.room_disk.specs.declared.disk_event.DiskEvent.{DiskEvent}
+use Rattle.room_disk.specs.declared.disk_event.DiskEvent.TheVariants.{Written, Cut, Synced}
 use Rattle.room_disk.specs.Disk.{IsDisk, Image}
 use Rattle.room_disk.specs.Crash.{overlaid, Torn, CutShort}
 use Rattle.room_disk.specs.Past.{read_after, Steps, MayLeave, LeavesImage, MightHaveLeft}
@@ -32,7 +32,7 @@ whole_cut to old = record {
   no_longer = grind (arith, places);
 }
 
--- the deed is on this file or on another
+-- the event is on this file or on another
 pub by_file : (other file : ℕ) (before : List ℕ → Type 0) (step : List ℕ → List ℕ → Type 0) (old new : List ℕ) → before old → step old new
     → Steps other file before step (if other == file then new else old)
 by_file other file before step old new was does =
@@ -42,7 +42,7 @@ by_file other file before step old new was does =
     ]
 
 -- what is read is one of what a crash may leave
-pub may_leave_read : (first : Image) (deeds : List Deed) (file : ℕ) → MayLeave first deeds file (read_after first deeds file)
+pub may_leave_read : (first : Image) (events : List DiskEvent) (file : ℕ) → MayLeave first events file (read_after first events file)
 may_leave_read first [] file = refl
 may_leave_read first (Written other at bytes ∷ older) file =
     by_file other file (MayLeave first older file) (Torn at bytes) (read_after first older file) (overlaid at bytes (read_after first older file))
@@ -53,36 +53,36 @@ may_leave_read first (Cut other to ∷ older) file =
 may_leave_read first (Synced other ∷ older) file =
     elim (eqb_tells other file) [ inl is ↦ inl (is.1, refl) | inr isnt ↦ inr (isnt.1, may_leave_read first older file) ]
 
-pub left_now : (first : Image) (deeds : List Deed) (moment : ℕ) (image : Image) → moment ≤ length deeds
-    → LeavesImage first deeds image → MightHaveLeft first deeds moment image
+pub left_now : (first : Image) (events : List DiskEvent) (moment : ℕ) (image : Image) → moment ≤ length events
+    → LeavesImage first events image → MightHaveLeft first events moment image
 left_now first [] moment image le leaves = (omega (arith, le), leaves)
-left_now first (deed ∷ older) moment image le leaves = inl (le, leaves)
+left_now first (event ∷ older) moment image le leaves = inl (le, leaves)
 
-left_before : (first : Image) (deeds : List Deed) (moment : ℕ) (image : Image) → MightHaveLeft first deeds moment image → moment ≤ length deeds
+left_before : (first : Image) (events : List DiskEvent) (moment : ℕ) (image : Image) → MightHaveLeft first events moment image → moment ≤ length events
 left_before first [] moment image left = omega (arith, left.0)
-left_before first (deed ∷ older) moment image left = elim left [
+left_before first (event ∷ older) moment image left = elim left [
   | inl now ↦ now.0
   | inr before ↦ omega (arith, left_before first older moment image before)
 ]
 
-only_left : (first : Image) (deeds : List Deed) (image : Image) → MightHaveLeft first deeds (length deeds) image → LeavesImage first deeds image
+only_left : (first : Image) (events : List DiskEvent) (image : Image) → MightHaveLeft first events (length events) image → LeavesImage first events image
 only_left first [] image left = left.1
-only_left first (deed ∷ older) image left = elim left [
+only_left first (event ∷ older) image left = elim left [
   | inl now ↦ now.1
-  | inr before ↦ absurd (omega (arith, left_before first older (length (deed ∷ older)) image before))
+  | inr before ↦ absurd (omega (arith, left_before first older (length (event ∷ older)) image before))
 ]
 
 -- whatever its counts
-pub past_is_disk : (first : Image) (deeds : List Deed) (faults : ℕ → ℕ) → IsDisk (record {
+pub past_is_disk : (first : Image) (events : List DiskEvent) (faults : ℕ → ℕ) → IsDisk (record {
   tells = true;
-  reads = read_after first deeds;
-  leaves = MayLeave first deeds;
-  moment = length deeds;
-  since = MightHaveLeft first deeds;
+  reads = read_after first events;
+  leaves = MayLeave first events;
+  moment = length events;
+  since = MightHaveLeft first events;
   faults = faults;
 })
-past_is_disk first deeds faults = record {
-  counts_now = λ moment image le leaves. left_now first deeds moment image le leaves;
-  only_now = λ image left. only_left first deeds image left;
-  reads_one = λ file. may_leave_read first deeds file;
+past_is_disk first events faults = record {
+  counts_now = λ moment image le leaves. left_now first events moment image le leaves;
+  only_now = λ image left. only_left first events image left;
+  reads_one = λ file. may_leave_read first events file;
 }

@@ -20,10 +20,10 @@ told_store store =
     let first = listed store.past.first in
     record {
       tells = true;
-      reads = read_after first store.past.deeds;
-      leaves = MayLeave first store.past.deeds;
-      moment = length store.past.deeds;
-      since = MightHaveLeft first store.past.deeds;
+      reads = read_after first store.past.events;
+      leaves = MayLeave first store.past.events;
+      moment = length store.past.events;
+      since = MightHaveLeft first store.past.events;
       faults = faults_on store.faults;
     }
 
@@ -41,7 +41,7 @@ abbrev pub counted : StoreInMemory → StoreInMemory
 counted store = record store { calls = called store.calls; left = one_less store.left }
 
 -- a call on the file that changes nothing: it fails just where it is to fail
-pub record Looks {T E : Type 0} (file : ℕ) (old new : StoreInMemory) (answer : Result T E) : Type 0 where
+pub record ChangesNothing {T E : Type 0} (file : ℕ) (old new : StoreInMemory) (answer : Result T E) : Type 0 where
   pub fails : IsErr answer ↔ IsToFail old
   pub same : new ≡ record (counted old) { faults = counts_after file answer old.faults }
 

@@ -2,7 +2,7 @@
 //! journal, file 1 + c is cartridge c. docs/definitions.md says the disk model in words.
 #![tactic(auto)]
 
-mod deed;
+mod disk_event;
 mod fault_counts;
 mod file_bytes;
 mod folder_store;

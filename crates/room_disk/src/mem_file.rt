@@ -1,5 +1,5 @@
 ghost use Rattle.std.specs.Prelude.{◌≡◌, ◌≤◌, IfOk, OnOk, MatchOption};
-ghost use Rattle.room_disk.specs.Kept.{blank_file, file_of, HasGrown, HasGrownFiles, HasRoomBehind, HasSameFiles, IsDistinct, IsFirst, NoneHas};
+ghost use Rattle.room_disk.specs.Kept.{blank_file, kept_file, HasGrown, HasGrownFiles, HasRoomBehind, HasSameFiles, IsDistinct, IsFirst, NoneHas};
 
 use crate::file_bytes::FileBytes;
 use room_base::Memory;
@@ -72,7 +72,7 @@ pub fn make_room(
     ensures grown { HasGrownFiles files.old.items files.new.items }
     ensures distinct { IsDistinct files.old.items → IsDistinct files.new.items }
     ensures found { IfOk result (λ index. IsFirst number files.new.items index) }
-    ensures room { OnOk result (room ≤ (file_of number files.new.items).now.room) }
+    ensures room { OnOk result (room ≤ (kept_file number files.new.items).now.room) }
 {
     let index = slot(alloc, files, number)?;
     let file = &mut files[index];

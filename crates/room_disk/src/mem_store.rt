@@ -5,9 +5,9 @@ ghost use Rattle.room_disk.specs.Crash.{overlaid, Torn, CutShort};
 ghost use Rattle.room_disk.specs.Crashed.{crashed_file, part_of};
 ghost use Rattle.room_disk.specs.Disk.{IsDisk, Quiet, Others, Leaves, Images, Settled, FileCause};
 ghost use Rattle.room_disk.specs.Faults.{one_more_fault, no_faults, HasRisen};
-ghost use Rattle.room_disk.specs.Memory.{IsToFail, counted, told_store, Looks, Changes};
+ghost use Rattle.room_disk.specs.Memory.{IsToFail, counted, told_store, ChangesNothing, Changes};
 ghost use Rattle.room_disk.specs.Past.{listed};
-ghost use Rattle.room_disk.specs.declared.deed.Deed.TheVariants.{Written, Cut, Synced};
+ghost use Rattle.room_disk.specs.declared.disk_event.DiskEvent.TheVariants.{Written, Cut, Synced};
 
 use crate::Store;
 use crate::fault_counts::FaultCounts;
@@ -47,7 +47,7 @@ impl MemStore {
     /// `stop`, every call after so many fails.
     pub fn new(alloc: Global, failing: Vec<u64>, stop: Option<u64>) -> MemStore
         ensures new { result ≡ record {
-          past = record { first = []; deeds = [] };
+          past = record { first = []; events = [] };
           calls = record { failing = failing.items; made = 0 };
           left = stop;
           faults = no_faults;
@@ -77,11 +77,11 @@ impl MemStore {
     pub fn crashed(self, choice: u8) -> MemStore
         requires { choice < 4 }
         ensures image { (file : ℕ) → (told_store result).reads file
-            ≡ crashed_file (part_of choice) (listed self.past.first) self.past.deeds file }
+            ≡ crashed_file (part_of choice) (listed self.past.first) self.past.events file }
         ensures possible { Images (told_store self) (told_store result).reads }
         ensures settled { (file : ℕ) → Settled (told_store result) file }
         ensures rest { result ≡ record {
-          past = record { first = result.past.first; deeds = [] };
+          past = record { first = result.past.first; events = [] };
           calls = record { failing = []; made = 0 };
           left = None;
           faults = no_faults;
@@ -150,13 +150,13 @@ impl Store for MemStore {
 
     ghost view = { told_store };
 
-    ghost is_disk = { λ store. past_is_disk (listed store.past.first) store.past.deeds (faults_on store.faults) };
+    ghost is_disk = { λ store. past_is_disk (listed store.past.first) store.past.events (faults_on store.faults) };
 
     fn len(&mut self, file: u32) -> Result<u64, Failed>
         ensures cause { FileCause file (told_store self.old) (told_store self.new) result }
         ensures quiet { Quiet (told_store self.old) (told_store self.new) }
         ensures length { IfOk result (λ len. len ≡ length ((told_store self.old).reads file)) }
-        ensures looks { Looks file self.old self.new result }
+        ensures looks { ChangesNothing file self.old self.new result }
     {
         if self.next_fails() {
             return Err(self.fault(file));
@@ -173,7 +173,7 @@ impl Store for MemStore {
             count ≡ min (length into.old) (length ((told_store self.old).reads file) - at)) }
         ensures given { IfOk result (λ count.
             take count into.new ≡ take count (drop at ((told_store self.old).reads file))) }
-        ensures looks { Looks file self.old self.new result }
+        ensures looks { ChangesNothing file self.old self.new result }
     {
         if self.next_fails() {
             return Err(self.fault(file));
@@ -191,7 +191,7 @@ impl Store for MemStore {
             → (before : List ℕ) × (told_store self.old).leaves file before × Torn at bytes.now before after }
         ensures moments { Leaves (told_store self.old) (told_store self.new) (Images (told_store self.new)) }
         ensures changes { Changes (IsToFail self.old ⊎ (2 ^ 64 ≤ at + length bytes.now)) file
-            (record self.old.past { deeds = Written file at bytes.now ∷ self.old.past.deeds }) self.old self.new result }
+            (record self.old.past { events = Written file at bytes.now ∷ self.old.past.events }) self.old self.new result }
     {
         if self.next_fails() || at.checked_add(bytes.len() as u64).is_none() {
             return Err(self.fault(file));
@@ -205,7 +205,7 @@ impl Store for MemStore {
         ensures quiet { Quiet (told_store self.old) (told_store self.new) }
         ensures settled { OnOk result (Settled (told_store self.new) file) }
         ensures changes { Changes (IsToFail self.old) file
-            (record self.old.past { deeds = Synced file ∷ self.old.past.deeds }) self.old self.new result }
+            (record self.old.past { events = Synced file ∷ self.old.past.events }) self.old self.new result }
     {
         if self.next_fails() {
             return Err(self.fault(file));
@@ -223,7 +223,7 @@ impl Store for MemStore {
             → (before : List ℕ) × (told_store self.old).leaves file before × CutShort to before after }
         ensures moments { Leaves (told_store self.old) (told_store self.new) (Images (told_store self.new)) }
         ensures changes { Changes (IsToFail self.old) file
-            (record self.old.past { deeds = Cut file to ∷ self.old.past.deeds }) self.old self.new result }
+            (record self.old.past { events = Cut file to ∷ self.old.past.events }) self.old self.new result }
     {
         if self.next_fails() {
             return Err(self.fault(file));

@@ -11,26 +11,26 @@ use Rattle.volume_block.specs.declared.block.Chunk.{Chunk}
 use Rattle.volume_block.specs.declared.block.Reason.{Reason}
 use Rattle.volume_block.proofs.OneBlock.{one_block}
 use Rattle.volume_block.proofs.Lengths.{length-chunk_text}
-use Rattle.volume_store.specs.Committed.{block_at, Place, Whole, Damaged, IsPlace, ArePlaces, CommittedFile, Closed, FilesFrom, Contents, Unlabelled, BadLabel, Labelled}
+use Rattle.volume_store.specs.Committed.{block_at, DataPlace, Whole, Damaged, IsDataPlace, AreDataPlaces, CommittedFile, Closed, FilesFrom, Contents, Unlabelled, BadLabel, Labelled}
 use Rattle.volume_store.proofs.OneContents.{one_contents}
 use Rattle.volume_store.specs.Reads.{IsBad}
 use Rattle.volume_block.specs.declared.label.Label.{Label}
 use Rattle.room_top.specs.Raw.{IsRaw, joined, HasBytes, IsFirstDamaged, IsFileOn, GivesFile}
-use Rattle.room_top.specs.Put.{Stood, Gains}
+use Rattle.room_top.specs.Put.{HadFiles, HasOneFileMore}
 use Rattle.room_top.specs.Stages.{DataCause, IsDataRead, GivesPlaces}
 use Rattle.room_top.specs.declared.get.DataFault.{DataFault}
 use Rattle.room_top.specs.declared.get.DataFault.TheVariants as faults
 
 -- ---- what is no data block
 
-pub mark_is_damaged : (disk : List ℕ) (volid number count : ℕ) → ValidBlock (block_at disk number) volid number (kinds.Mark count) → IsPlace disk volid number Damaged
+pub mark_is_damaged : (disk : List ℕ) (volid number count : ℕ) → ValidBlock (block_at disk number) volid number (kinds.Mark count) → IsDataPlace disk volid number Damaged
 mark_is_damaged disk volid number count valid = λ chunks held.
     let data_block : Block = kinds.Data (length (chunks_text chunks)) in
     let same : kinds.Mark count ≡ data_block =
     (one_block (block_at disk number) volid number volid number (kinds.Mark count) data_block valid (chunks, held, refl)).2 in
     absurd (cc same)
 
-pub bad_is_damaged : (disk : List ℕ) (volid number : ℕ) (why : Reason) → IsBad (block_at disk number) volid number why → IsPlace disk volid number Damaged
+pub bad_is_damaged : (disk : List ℕ) (volid number : ℕ) (why : Reason) → IsBad (block_at disk number) volid number why → IsDataPlace disk volid number Damaged
 bad_is_damaged disk volid number why bad = λ chunks held. bad.invalid (kinds.Data (length (chunks_text chunks))) (chunks, held, refl)
 
 -- ---- chunk by chunk
@@ -117,24 +117,24 @@ inside block at found place finds =
 -- ---- block by block
 
 -- the first blocks of a file are whole, and these are their bytes
-pub record HasRead (places : List Place) (bytes : List ℕ) (index : ℕ) : Type 0 where
+pub record HasRead (places : List DataPlace) (bytes : List ℕ) (index : ℕ) : Type 0 where
   pub whole : List (List ChunkText)
-  pub rest : List Place
+  pub rest : List DataPlace
   pub split : places ≡ map Whole whole ++ rest
   pub counted : length whole ≡ index
   pub are : bytes ≡ joined (all_chunks whole)
 
-pub none_read : (places : List Place) → HasRead places [] 0
+pub none_read : (places : List DataPlace) → HasRead places [] 0
 none_read places = record { whole = []; rest = places; split = refl; counted = refl; are = refl }
 
 -- the place behind whole ones
-place_behind : (disk : List ℕ) (volid first : ℕ) (whole : List (List ChunkText)) (place : Place) (rest : List Place)
-    → ArePlaces disk volid first (map Whole whole ++ place ∷ rest) → IsPlace disk volid (first + length whole) place
+place_behind : (disk : List ℕ) (volid first : ℕ) (whole : List (List ChunkText)) (place : DataPlace) (rest : List DataPlace)
+    → AreDataPlaces disk volid first (map Whole whole ++ place ∷ rest) → IsDataPlace disk volid (first + length whole) place
 place_behind disk volid first [] place rest are =
-    let P : ℕ → Type 0 = λ (number : ℕ). IsPlace disk volid number place in
+    let P : ℕ → Type 0 = λ (number : ℕ). IsDataPlace disk volid number place in
     subst P (let same : first ≡ first + 0 = omega arith in same) are.0
 place_behind disk volid first (chunks ∷ whole) place rest are =
-    let P : ℕ → Type 0 = λ (number : ℕ). IsPlace disk volid number place in
+    let P : ℕ → Type 0 = λ (number : ℕ). IsDataPlace disk volid number place in
     subst P (let same : first + 1 + length whole ≡ first + suc (length whole) = omega arith in same)
     (place_behind disk volid (first + 1) whole place rest are.1)
 
@@ -146,55 +146,55 @@ all_more (first ∷ whole) chunks =
     ∙ sym (append_assoc (joined first) (joined (all_chunks whole)) (joined chunks))
     ∙ ap (λ (t : List ℕ). t ++ joined chunks) (sym (flat_map-append (λ (one : ChunkText). one.bytes) first (all_chunks whole)))
 
-read_next : (disk : List ℕ) (volid first index : ℕ) (bytes new : List ℕ) (places : List Place) (whole : List (List ChunkText)) (rest : List Place)
+read_next : (disk : List ℕ) (volid first index : ℕ) (bytes new : List ℕ) (places : List DataPlace) (whole : List (List ChunkText)) (rest : List DataPlace)
     → places ≡ map Whole whole ++ rest → length whole ≡ index → bytes ≡ joined (all_chunks whole) → index < length places
-    → ArePlaces disk volid first places → (held : (chunks : List ChunkText) × HoldsChunks (block_at disk (first + index)) volid (first + index) chunks)
+    → AreDataPlaces disk volid first places → (held : (chunks : List ChunkText) × HoldsChunks (block_at disk (first + index)) volid (first + index) chunks)
     → ((chunks : List ChunkText) → HoldsChunks (block_at disk (first + index)) volid (first + index) chunks → new ≡ bytes ++ joined chunks)
     → HasRead places new (index + 1)
 read_next disk volid first index bytes new places whole [] split counted are inside places_are held added =
     absurd (omega (arith, inside, counted, ap length split, length-append (map Whole whole) [], length-map whole Whole))
 read_next disk volid first index bytes new places whole (Damaged ∷ rest) split counted are inside places_are held added =
-    let P : List Place → Type 0 = λ (all : List Place). ArePlaces disk volid first all in
+    let P : List DataPlace → Type 0 = λ (all : List DataPlace). AreDataPlaces disk volid first all in
     let here = place_behind disk volid first whole Damaged rest (subst P split places_are) in
-    let N : ℕ → Type 0 = λ (n : ℕ). IsPlace disk volid (first + n) Damaged in
+    let N : ℕ → Type 0 = λ (n : ℕ). IsDataPlace disk volid (first + n) Damaged in
     absurd (subst N counted here held.0 held.1)
 read_next disk volid first index bytes new places whole (Whole chunks ∷ rest) split counted are inside places_are held added =
-    let P : List Place → Type 0 = λ (all : List Place). ArePlaces disk volid first all in
-    let N : ℕ → Type 0 = λ (n : ℕ). IsPlace disk volid (first + n) (Whole chunks) in
+    let P : List DataPlace → Type 0 = λ (all : List DataPlace). AreDataPlaces disk volid first all in
+    let N : ℕ → Type 0 = λ (n : ℕ). IsDataPlace disk volid (first + n) (Whole chunks) in
     let here = subst N counted (place_behind disk volid first whole (Whole chunks) rest (subst P split places_are)) in
     record {
       whole = whole ++ chunks ∷ [];
       rest = rest;
-      split = split ∙ sym (append_assoc (map Whole whole) (Whole chunks ∷ []) rest) ∙ ap (λ (l : List Place). l ++ rest) (sym (map-append Whole whole (chunks ∷ [])));
+      split = split ∙ sym (append_assoc (map Whole whole) (Whole chunks ∷ []) rest) ∙ ap (λ (l : List DataPlace). l ++ rest) (sym (map-append Whole whole (chunks ∷ [])));
       counted = omega (arith, length-append whole (chunks ∷ []), counted);
       are = added chunks here ∙ ap (λ (t : List ℕ). t ++ joined chunks) are ∙ sym (all_more whole chunks);
     }
 
-pub read_more : (disk : List ℕ) (volid first index : ℕ) (bytes new : List ℕ) (places : List Place) → HasRead places bytes index → index < length places
-    → ArePlaces disk volid first places → (chunks : List ChunkText) × HoldsChunks (block_at disk (first + index)) volid (first + index) chunks
+pub read_more : (disk : List ℕ) (volid first index : ℕ) (bytes new : List ℕ) (places : List DataPlace) → HasRead places bytes index → index < length places
+    → AreDataPlaces disk volid first places → (chunks : List ChunkText) × HoldsChunks (block_at disk (first + index)) volid (first + index) chunks
     → ((chunks : List ChunkText) → HoldsChunks (block_at disk (first + index)) volid (first + index) chunks → new ≡ bytes ++ joined chunks)
     → HasRead places new (index + 1)
 read_more disk volid first index bytes new places so_far inside are held added =
     read_next disk volid first index bytes new places so_far.whole so_far.rest so_far.split so_far.counted so_far.are inside are held added
 
-damaged_next : (disk : List ℕ) (volid first index : ℕ) (bytes : List ℕ) (places : List Place) (whole : List (List ChunkText)) (rest : List Place)
-    → places ≡ map Whole whole ++ rest → length whole ≡ index → index < length places → ArePlaces disk volid first places
-    → IsPlace disk volid (first + index) Damaged → (more : List Place) × (places ≡ map Whole whole ++ Damaged ∷ more)
+damaged_next : (disk : List ℕ) (volid first index : ℕ) (bytes : List ℕ) (places : List DataPlace) (whole : List (List ChunkText)) (rest : List DataPlace)
+    → places ≡ map Whole whole ++ rest → length whole ≡ index → index < length places → AreDataPlaces disk volid first places
+    → IsDataPlace disk volid (first + index) Damaged → (more : List DataPlace) × (places ≡ map Whole whole ++ Damaged ∷ more)
 damaged_next disk volid first index bytes places whole [] split counted inside are bad =
     absurd (omega (arith, inside, counted, ap length split, length-append (map Whole whole) [], length-map whole Whole))
 damaged_next disk volid first index bytes places whole (Damaged ∷ rest) split counted inside are bad = (rest, split)
 damaged_next disk volid first index bytes places whole (Whole chunks ∷ rest) split counted inside are bad =
-    let P : List Place → Type 0 = λ (all : List Place). ArePlaces disk volid first all in
-    let N : ℕ → Type 0 = λ (n : ℕ). IsPlace disk volid (first + n) (Whole chunks) in
+    let P : List DataPlace → Type 0 = λ (all : List DataPlace). AreDataPlaces disk volid first all in
+    let N : ℕ → Type 0 = λ (n : ℕ). IsDataPlace disk volid (first + n) (Whole chunks) in
     absurd (bad chunks (subst N counted (place_behind disk volid first whole (Whole chunks) rest (subst P split are))))
 
 pub damaged_first : (disk : List ℕ) (volid index : ℕ) (bytes : List ℕ) (file : CommittedFile) → HasRead file.places bytes index → index < length file.places
-    → ArePlaces disk volid (file.mark + 1) file.places → IsPlace disk volid (file.mark + 1 + index) Damaged → IsFirstDamaged file (file.mark + 1 + index)
+    → AreDataPlaces disk volid (file.mark + 1) file.places → IsDataPlace disk volid (file.mark + 1 + index) Damaged → IsFirstDamaged file (file.mark + 1 + index)
 damaged_first disk volid index bytes file so_far within are bad =
     let found = damaged_next disk volid (file.mark + 1) index bytes file.places so_far.whole so_far.rest so_far.split so_far.counted within are bad in
     (so_far.whole, (found.0, found.1, omega (arith, so_far.counted)))
 
-all_read : (bytes : List ℕ) (file : CommittedFile) (whole : List (List ChunkText)) (rest : List Place) → file.places ≡ map Whole whole ++ rest
+all_read : (bytes : List ℕ) (file : CommittedFile) (whole : List (List ChunkText)) (rest : List DataPlace) → file.places ≡ map Whole whole ++ rest
     → length whole ≡ length file.places → bytes ≡ joined (all_chunks whole) → HasBytes file bytes
 all_read bytes file whole [] split counted are = (whole, split ∙ append-nil (map Whole whole), are)
 all_read bytes file whole (place ∷ rest) split counted are =
@@ -204,9 +204,9 @@ pub read_whole : (bytes : List ℕ) (file : CommittedFile) (index : ℕ) → Has
 read_whole bytes file index so_far ended = all_read bytes file so_far.whole so_far.rest so_far.split (so_far.counted ∙ ended) so_far.are
 
 places_among : (disk : List ℕ) (volid mark end : ℕ) (before : List CommittedFile) (file : CommittedFile) (after : List CommittedFile)
-    → FilesFrom disk volid mark (before ++ file ∷ after) (Closed end) → ArePlaces disk volid (file.mark + 1) file.places
+    → FilesFrom disk volid mark (before ++ file ∷ after) (Closed end) → AreDataPlaces disk volid (file.mark + 1) file.places
 places_among disk volid mark end [] file after are =
-    let P : ℕ → Type 0 = λ (m : ℕ). ArePlaces disk volid (m + 1) file.places in
+    let P : ℕ → Type 0 = λ (m : ℕ). AreDataPlaces disk volid (m + 1) file.places in
     subst P (sym are.0) are.2
 places_among disk volid mark end (first ∷ before) file after are =
     places_among disk volid (mark + length first.places + 1) end before file after are.3
@@ -220,7 +220,7 @@ data_later T U before mid now faults.Failed later cause = omega (arith, later, c
 data_later T U before mid now (faults.Damaged block) later cause = tt
 
 pub data_given : {T : Type 0} (bytes_of : T → List ℕ) (disk : List ℕ) (volid index : ℕ) (bytes block : List ℕ) (file : CommittedFile) (fault : DataFault)
-    → HasRead file.places bytes index → index < length file.places → ArePlaces disk volid (file.mark + 1) file.places
+    → HasRead file.places bytes index → index < length file.places → AreDataPlaces disk volid (file.mark + 1) file.places
     → IsDataRead disk volid (file.mark + 1 + index) block (Err fault) → GivesPlaces bytes_of file (Err fault)
 data_given bytes_of disk volid index bytes block file faults.Memory so_far within are read = tt
 data_given bytes_of disk volid index bytes block file faults.Failed so_far within are read = tt
@@ -230,7 +230,7 @@ data_given bytes_of disk volid index bytes block file (faults.Damaged bad) so_fa
 
 -- the data places of a file
 pub places_of : (disk : List ℕ) (number : ℕ) (label : Label) (file : CommittedFile) → IsFileOn disk number label file
-    → ArePlaces disk label.volid.0 (file.mark + 1) file.places
+    → AreDataPlaces disk label.volid.0 (file.mark + 1) file.places
 places_of disk number label file on = places_among disk label.volid.0 1 on.mark on.before file on.after on.on.1.1
 
 -- ---- what was put
@@ -240,27 +240,27 @@ joined_from ssid copy offset [] bytes are = are
 joined_from ssid copy offset (chunk ∷ chunks) bytes are =
     are.3.1 ∙ ap (λ (t : List ℕ). chunk.bytes ++ t) (joined_from ssid copy (offset + length chunk.bytes) chunks are.3.0 are.3.2)
 
-stood_raw : (cart : ℕ) (before : List ℕ) (label : Label) (files : List CommittedFile) → Stood cart before label files → IsRaw label
-stood_raw cart before label files (inl fresh) =
+had_raw : (cart : ℕ) (before : List ℕ) (label : Label) (files : List CommittedFile) → HadFiles cart before label files → IsRaw label
+had_raw cart before label files (inl fresh) =
     let P : Label → Type 0 = IsRaw in
     subst P (sym fresh.2.1) (omega arith)
-stood_raw cart before label files (inr old) = old.1.0
+had_raw cart before label files (inr old) = old.1.0
 
 -- the file that was put is given back
-pub gains_gives : (cart number : ℕ) (bytes before after : List ℕ) → Gains cart bytes before number after → GivesFile after number bytes
-gains_gives cart number bytes before after gains =
-    let blocks = gains.holds.0 in (
-      gains.label,
+pub one_more_gives : (cart number : ℕ) (bytes before after : List ℕ) → HasOneFileMore cart bytes before number after → GivesFile after number bytes
+one_more_gives cart number bytes before after more =
+    let blocks = more.holds.0 in (
+      more.label,
       (
-        gains.file,
+        more.file,
         record {
-          before = gains.files;
+          before = more.files;
           after = [];
-          mark = gains.end;
-          on = (stood_raw cart before gains.label gains.files gains.stood, gains.stands);
-          counted = sym gains.counted;
+          mark = more.end;
+          on = (had_raw cart before more.label more.files more.had, more.stands);
+          counted = sym more.counted;
         },
-        (blocks, gains.holds.1, joined_from number 1 0 (all_chunks blocks) bytes gains.holds.2),
+        (blocks, more.holds.1, joined_from number 1 0 (all_chunks blocks) bytes more.holds.2),
       ),
     )
 

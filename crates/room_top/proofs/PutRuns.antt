@@ -8,9 +8,9 @@ use Rattle.volume_store.proofs.Walking.{quiet_then}
 use Rattle.volume_block.specs.Chunks.{ChunkText}
 use Rattle.volume_block.specs.declared.label.Label.{Label}
 use Rattle.volume_store.specs.Committed.{CommittedFile, Committed}
-use Rattle.volume_store.specs.Writes.{file_of, added_file, with_file, without_files, IsWholeOrAbsent}
+use Rattle.volume_store.specs.Writes.{cart_file, added_file, with_file, without_files, IsWholeOrAbsent}
 use Rattle.room_top.specs.Raw.{raw_label, IsRawCartridge, JoinTo}
-use Rattle.room_top.specs.Put.{Gains, IsOccupied, IsPut, IsFirstFile, IsSite, IsReady, HasRoom, blocks_for}
+use Rattle.room_top.specs.Put.{HasOneFileMore, IsOccupied, IsPut, IsFirstFile, IsSite, IsSiteFor, HasRoom, blocks_for}
 use Rattle.room_top.specs.Run.{AreInput, TouchesCartridge, LeavesDisk}
 use Rattle.room_top.specs.Stages.{StoreCause, Stores}
 use Rattle.room_top.specs.declared.status.Status.{Status}
@@ -20,13 +20,13 @@ use Rattle.room_top.specs.declared.site.Site.TheVariants as sites
 
 -- a cartridge without a label gets the one file that these blocks are
 pub first_gains : (cart : ℕ) (bytes before disk : List ℕ) (label : Label) (blocks : List (List ChunkText)) → JoinTo 1 blocks bytes
-    → ¬ (IsOccupied before) → (made : ℕ) × (label ≡ raw_label cart made) → Committed disk (with_file label [] 1 blocks) → Gains cart bytes before 1 disk
+    → ¬ (IsOccupied before) → (made : ℕ) × (label ≡ raw_label cart made) → Committed disk (with_file label [] 1 blocks) → HasOneFileMore cart bytes before 1 disk
 first_gains cart bytes before disk label blocks joined free named stored = record {
   label = label;
   files = [];
   file = added_file 1 blocks;
   end = 1 + length blocks + 1;
-  stood = inl (free, refl, named);
+  had = inl (free, refl, named);
   counted = refl;
   stands = stored;
   holds = (blocks, refl, joined);
@@ -35,13 +35,13 @@ first_gains cart bytes before disk label blocks joined free named stored = recor
 -- a raw cartridge gets one file more
 pub next_gains : (cart mark number : ℕ) (bytes before disk : List ℕ) (label : Label) (files : List CommittedFile) (blocks : List (List ChunkText))
     → JoinTo number blocks bytes → IsRawCartridge before label files mark → number ≡ length files + 1
-    → Committed disk (with_file label files mark blocks) → Gains cart bytes before number disk
-next_gains cart mark number bytes before disk label files blocks joined stood counted stored = record {
+    → Committed disk (with_file label files mark blocks) → HasOneFileMore cart bytes before number disk
+next_gains cart mark number bytes before disk label files blocks joined had counted stored = record {
   label = label;
   files = files;
   file = added_file mark blocks;
   end = mark + length blocks + 1;
-  stood = inr (mark, stood);
+  had = inr (mark, had);
   counted = counted;
   stands = stored;
   holds = (blocks, refl, joined);
@@ -60,17 +60,17 @@ first_is_put cart bytes before disk label blocks joined free named (inr whole) =
 pub next_is_put : (cart mark number : ℕ) (bytes before disk : List ℕ) (label : Label) (files : List CommittedFile) (blocks : List (List ChunkText))
     → JoinTo number blocks bytes → IsRawCartridge before label files mark → number ≡ length files + 1
     → IsWholeOrAbsent label files mark blocks disk → IsPut cart bytes before disk
-next_is_put cart mark number bytes before disk label files blocks joined stood counted (inl absent) =
-    inr (inl (label, (files, (mark, stood, absent))))
-next_is_put cart mark number bytes before disk label files blocks joined stood counted (inr whole) =
-    inr (inr (inr (number, next_gains cart mark number bytes before disk label files blocks joined stood counted whole)))
+next_is_put cart mark number bytes before disk label files blocks joined had counted (inl absent) =
+    inr (inl (label, (files, (mark, had, absent))))
+next_is_put cart mark number bytes before disk label files blocks joined had counted (inr whole) =
+    inr (inr (inr (number, next_gains cart mark number bytes before disk label files blocks joined had counted whole)))
 
 -- what was settled stays so where nothing is written
 pub settled_quiet : (old new : DiskView) (file : ℕ) → Quiet old new → Settled old file → Settled new file
 settled_quiet old new file quiet settled = λ bytes left. settled bytes (quiet.leaves file bytes left) ∙ sym (quiet.reads file)
 
 -- a site that is ready has room for the data blocks of the bytes
-pub has_room : (cart size count : ℕ) (site : Site) → IsReady cart size site → count ≡ blocks_for size → HasRoom cart count site
+pub has_room : (cart size count : ℕ) (site : Site) → IsSiteFor cart size site → count ≡ blocks_for size → HasRoom cart count site
 has_room cart size count (sites.New label) ready is = (ready.0, ready.1, omega (arith, ready.2, is))
 has_room cart size count (sites.Next volume number) ready is = (ready.0, omega (arith, ready.3, is))
 
@@ -82,12 +82,12 @@ some_blocks size some = omega (arith, (div_ceil_times size 4016 (omega arith)).0
 
 -- storing a file behind calls that add no image
 pub touches : (input : SourceView) (old mid new : DiskView) (cart : ℕ) (bytes : List ℕ) (site : Site) → AreInput input bytes → Quiet old mid
-    → Settled mid (file_of cart) → IsSite cart (old.reads (file_of cart)) site → Others (file_of cart) mid new
-    → (IsSite cart (mid.reads (file_of cart)) site → Settled mid (file_of cart)
-    → Leaves mid new (OnFile (file_of cart) (IsPut cart bytes (mid.reads (file_of cart))) mid))
+    → Settled mid (cart_file cart) → IsSite cart (old.reads (cart_file cart)) site → Others (cart_file cart) mid new
+    → (IsSite cart (mid.reads (cart_file cart)) site → Settled mid (cart_file cart)
+    → Leaves mid new (OnFile (cart_file cart) (IsPut cart bytes (mid.reads (cart_file cart))) mid))
     → TouchesCartridge input cart old new
 touches input old mid new cart bytes site are quiet settled at others run =
-    let file = file_of cart in
+    let file = cart_file cart in
     let At : List ℕ → Type 0 = λ (disk : List ℕ). IsSite cart disk site in
     let P : List ℕ → Type 0 = IsPut cart bytes (mid.reads file) in
     let Q : List ℕ → Type 0 = IsPut cart bytes (old.reads file) in (
@@ -105,17 +105,17 @@ touches input old mid new cart bytes site are quiet settled at others run =
 -- where nothing was written the cartridge is untouched
 pub untouched : (input : SourceView) (old new : DiskView) (cart : ℕ) (bytes : List ℕ) → AreInput input bytes → Quiet old new → TouchesCartridge input cart old new
 untouched input old new cart bytes are quiet =
-    (others_quiet (file_of cart) old new quiet, (bytes, are, leaves_none old new (OnFile (file_of cart) (IsPut cart bytes (old.reads (file_of cart))) old) quiet))
+    (others_quiet (cart_file cart) old new quiet, (bytes, are, leaves_none old new (OnFile (cart_file cart) (IsPut cart bytes (old.reads (cart_file cart))) old) quiet))
 
 -- the file that was stored behind calls that add no image
-pub kept_behind : (old mid new : DiskView) (cart number : ℕ) (bytes : List ℕ) (site : Site) → Quiet old mid → IsSite cart (old.reads (file_of cart)) site
-    → (IsSite cart (mid.reads (file_of cart)) site → Gains cart bytes (mid.reads (file_of cart)) number (new.reads (file_of cart)) × Settled new (file_of cart))
-    → Gains cart bytes (old.reads (file_of cart)) number (new.reads (file_of cart)) × Settled new (file_of cart)
+pub kept_behind : (old mid new : DiskView) (cart number : ℕ) (bytes : List ℕ) (site : Site) → Quiet old mid → IsSite cart (old.reads (cart_file cart)) site
+    → (IsSite cart (mid.reads (cart_file cart)) site → HasOneFileMore cart bytes (mid.reads (cart_file cart)) number (new.reads (cart_file cart)) × Settled new (cart_file cart))
+    → HasOneFileMore cart bytes (old.reads (cart_file cart)) number (new.reads (cart_file cart)) × Settled new (cart_file cart)
 kept_behind old mid new cart number bytes site quiet at stored =
-    let file = file_of cart in
+    let file = cart_file cart in
     let At : List ℕ → Type 0 = λ (disk : List ℕ). IsSite cart disk site in
     let made = stored (subst At (sym (quiet.reads file)) at) in
-    let Before : List ℕ → Type 0 = λ (before : List ℕ). Gains cart bytes before number (new.reads file) in
+    let Before : List ℕ → Type 0 = λ (before : List ℕ). HasOneFileMore cart bytes before number (new.reads file) in
     (subst Before (quiet.reads file) made.0, made.1)
 
 -- what each status leaves, where nothing was written
@@ -132,7 +132,7 @@ leaves_quiet_disk input cart old new (status.Refused refusal) quiet touched = qu
 
 -- what a fault of storing leaves
 pub leaves_stored : (input : SourceView) (cart number before now : ℕ) (old mid new : DiskView) (bytes : List ℕ) (fault : Status) → Quiet old mid
-    → StoreCause before now (Err fault) → Stores (file_of cart) cart bytes number mid new (Err fault) → TouchesCartridge input cart old new
+    → StoreCause before now (Err fault) → Stores (cart_file cart) cart bytes number mid new (Err fault) → TouchesCartridge input cart old new
     → LeavesDisk input cart old new fault
 leaves_stored input cart number before now old mid new bytes status.Done quiet cause stored touched = touched
 leaves_stored input cart number before now old mid new bytes (status.Usage word) quiet cause stored touched = absurd cause

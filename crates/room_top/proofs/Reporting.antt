@@ -2,21 +2,21 @@
 use Rattle.std.proofs.Common.{◌≡◌, ℕ, ◌+◌, List, ◌++◌, length, take, min, Result, Ok, Err, sym, ap, ◌∙◌, append_assoc, arith}
 use Rattle.std.proofs.lemmas.List.{take_min, take-append-le}
 use Rattle.std.proofs.Math.Seq.{take-append-add}
-use Rattle.room_base.specs.Outside.{GainsFront, Writes}
+use Rattle.room_base.specs.Outside.{AddsFront, Writes}
 use Rattle.room_base.specs.declared.fault.Failed.{Failed}
 
 -- a front of the first piece is a front of both
-pub front_of_first : (old new one other : List ℕ) → GainsFront old new one → GainsFront old new (one ++ other)
-front_of_first old new one other gains =
-    let count = min gains.0 (length one) in
-    (count, gains.1 ∙ ap (λ (t : List ℕ). old ++ t) (sym (take_min gains.0 one) ∙ sym (take-append-le count one other (omega arith))))
+pub front_of_first : (old new one other : List ℕ) → AddsFront old new one → AddsFront old new (one ++ other)
+front_of_first old new one other more =
+    let count = min more.0 (length one) in
+    (count, more.1 ∙ ap (λ (t : List ℕ). old ++ t) (sym (take_min more.0 one) ∙ sym (take-append-le count one other (omega arith))))
 
 -- the first piece and a front of the second
-pub front_of_second : (old mid new one other : List ℕ) → mid ≡ old ++ one → GainsFront mid new other → GainsFront old new (one ++ other)
-front_of_second old mid new one other whole gains = (
-  length one + gains.0,
-  gains.1 ∙ ap (λ (t : List ℕ). t ++ take gains.0 other) whole ∙ append_assoc old one (take gains.0 other)
-      ∙ ap (λ (t : List ℕ). old ++ t) (sym (take-append-add one other gains.0)),
+pub front_of_second : (old mid new one other : List ℕ) → mid ≡ old ++ one → AddsFront mid new other → AddsFront old new (one ++ other)
+front_of_second old mid new one other whole more = (
+  length one + more.0,
+  more.1 ∙ ap (λ (t : List ℕ). t ++ take more.0 other) whole ∙ append_assoc old one (take more.0 other)
+      ∙ ap (λ (t : List ℕ). old ++ t) (sym (take-append-add one other more.0)),
 )
 
 -- the second piece behind the first

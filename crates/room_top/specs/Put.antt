@@ -25,17 +25,17 @@ IsOccupied disk = slice_index disk 0 ≡ 0x4C
 
 -- What stood on the cartridge before a file came to it: no label, and it gets a raw one first; or a raw one and
 -- these files.
-abbrev pub Stood : ℕ → List ℕ → Label → List CommittedFile → Type 0
-Stood cart before label files = (¬ (IsOccupied before) × (files ≡ []) × ((made : ℕ) × (label ≡ raw_label cart made)))
+abbrev pub HadFiles : ℕ → List ℕ → Label → List CommittedFile → Type 0
+HadFiles cart before label files = (¬ (IsOccupied before) × (files ≡ []) × ((made : ℕ) × (label ≡ raw_label cart made)))
     ⊎ ((mark : ℕ) × IsRawCartridge before label files mark)
 
 -- the cartridge has one file more than before, with this number, and it holds these bytes
-pub record Gains (cart : ℕ) (bytes before : List ℕ) (number : ℕ) (after : List ℕ) : Type 0 where
+pub record HasOneFileMore (cart : ℕ) (bytes before : List ℕ) (number : ℕ) (after : List ℕ) : Type 0 where
   pub label : Label
   pub files : List CommittedFile
   pub file : CommittedFile
   pub end : ℕ
-  pub stood : Stood cart before label files
+  pub had : HadFiles cart before label files
   pub counted : number ≡ length files + 1
   pub stands : Committed after (Labelled label (files ++ file ∷ []) (Closed end))
   pub holds : FileHolds number file bytes
@@ -53,7 +53,7 @@ HasNoFile cart disk = Committed disk Unlabelled ⊎ ((made : ℕ) × Committed d
 -- file more, whole.
 abbrev pub IsPut : ℕ → List ℕ → List ℕ → List ℕ → Type 0
 IsPut cart bytes before disk = (disk ≡ before) ⊎ HasOldFiles before disk ⊎ (¬ (IsOccupied before) × HasNoFile cart disk)
-    ⊎ ((number : ℕ) × Gains cart bytes before number disk)
+    ⊎ ((number : ℕ) × HasOneFileMore cart bytes before number disk)
 
 -- While a cartridge gets its first file it is as it was, has no label, or has the new label with no file or this one.
 abbrev pub IsFirstFile : Label → List (List ChunkText) → List ℕ → List ℕ → Type 0
@@ -73,9 +73,9 @@ IsSite cart before (sites.Next volume number) =
     (files : List CommittedFile) × IsRawCartridge before volume.label files volume.mark × (number ≡ length files + 1)
 
 -- there is room for so many bytes, and all numbers are in their ranges
-abbrev pub IsReady : ℕ → ℕ → Site → Type 0
-IsReady cart size (sites.New label) = (label.cart.0 ≡ cart) × IsLabel label × (blocks_for size + 3 ≤ label.capacity)
-IsReady cart size (sites.Next volume number) = (volume.cart.0 ≡ cart) × IsLabel volume.label × (1 ≤ volume.mark)
+abbrev pub IsSiteFor : ℕ → ℕ → Site → Type 0
+IsSiteFor cart size (sites.New label) = (label.cart.0 ≡ cart) × IsLabel label × (blocks_for size + 3 ≤ label.capacity)
+IsSiteFor cart size (sites.Next volume number) = (volume.cart.0 ≡ cart) × IsLabel volume.label × (1 ≤ volume.mark)
     × (volume.mark + blocks_for size + 2 ≤ volume.label.capacity) × (1 ≤ number)
 
 -- there is room for so many data blocks
@@ -83,17 +83,17 @@ abbrev pub HasRoom : ℕ → ℕ → Site → Type 0
 HasRoom cart count (sites.New label) = (label.cart.0 ≡ cart) × IsLabel label × (count + 3 ≤ label.capacity)
 HasRoom cart count (sites.Next volume number) = (volume.cart.0 ≡ cart) × (volume.mark + count + 2 ≤ volume.label.capacity)
 
-abbrev pub number_of : Site → ℕ
-number_of (sites.New label) = 1
-number_of (sites.Next volume number) = number
+abbrev pub site_number : Site → ℕ
+site_number (sites.New label) = 1
+site_number (sites.Next volume number) = number
 
-abbrev pub mark_of : Site → ℕ
-mark_of (sites.New label) = 1
-mark_of (sites.Next volume number) = volume.mark
+abbrev pub site_mark : Site → ℕ
+site_mark (sites.New label) = 1
+site_mark (sites.Next volume number) = volume.mark
 
-abbrev pub volid_of : Site → ℕ
-volid_of (sites.New label) = label.volid.0
-volid_of (sites.Next volume number) = volume.label.volid.0
+abbrev pub site_volid : Site → ℕ
+site_volid (sites.New label) = label.volid.0
+site_volid (sites.Next volume number) = volume.label.volid.0
 
 -- a raw cartridge that has no room for so many bytes
 abbrev pub IsFull : ℕ → List ℕ → Type 0

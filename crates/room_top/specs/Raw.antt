@@ -3,7 +3,7 @@ use Rattle.std.specs.Prelude.{◌≡◌, ◌⊎◌, ℕ, ◌+◌, ◌≤◌, ◌
 use Rattle.std.specs.List.{flat_map}
 use Rattle.volume_block.specs.Chunks.{ChunkText, all_chunks, JoinFrom}
 use Rattle.volume_block.specs.declared.label.Label.{Label}
-use Rattle.volume_store.specs.Committed.{Place, Whole, Damaged, CommittedFile, Closed, Stop, BadLabel, Labelled, Committed, HasLabel}
+use Rattle.volume_store.specs.Committed.{DataPlace, Whole, Damaged, CommittedFile, Closed, Stop, BadLabel, Labelled, Committed, HasLabel}
 
 -- the label of a raw cartridge: volume 2^63 + cart, pool `Raw`, capacity 1,000,000
 abbrev pub raw_label : ℕ → ℕ → Label
@@ -42,7 +42,7 @@ HasBytes file bytes = (blocks : List (List ChunkText)) × (file.places ≡ map W
 
 -- the first damaged data block of a file
 abbrev pub IsFirstDamaged : CommittedFile → ℕ → Type 0
-IsFirstDamaged file block = (blocks : List (List ChunkText)) × ((rest : List Place)
+IsFirstDamaged file block = (blocks : List (List ChunkText)) × ((rest : List DataPlace)
     × (file.places ≡ map Whole blocks ++ Damaged ∷ rest) × (block ≡ file.mark + 1 + length blocks))
 
 -- a file of a raw cartridge, by its number, counted from 1

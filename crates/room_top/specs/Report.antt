@@ -1,13 +1,13 @@
 -- What is written where errors go.
 use Rattle.std.specs.Prelude.{◌≡◌, ◌⊎◌, List, ◌++◌, codes, ℕ}
 use Rattle.room_base.specs.Faults.{Rose}
-use Rattle.room_base.specs.Outside.{SinkView, GainsFront}
+use Rattle.room_base.specs.Outside.{SinkView, AddsFront}
 use Rattle.room_top.specs.declared.status.Status.{Status}
 use Rattle.room_top.specs.declared.status.Status.TheVariants as status
 
 -- a line was written, or a front of it where the count of faults rose
 abbrev pub WritesLine : List ℕ → SinkView → SinkView → Type 0
-WritesLine line old new = (new.written ≡ old.written ++ line) ⊎ (Rose old.faults new.faults × GainsFront old.written new.written line)
+WritesLine line old new = (new.written ≡ old.written ++ line) ⊎ (Rose old.faults new.faults × AddsFront old.written new.written line)
 
 -- the line for a word that doesn't fit
 abbrev pub usage_line : List ℕ → List ℕ

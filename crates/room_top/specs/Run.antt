@@ -2,13 +2,13 @@
 use Rattle.std.specs.Prelude.{◌≡◌, ◌⊎◌, ℕ, ◌≤◌, ◌<◌, List, [], ◌++◌, length, codes, Result, Ok, Err}
 use Rattle.std.specs.Fmt.{decimal}
 use Rattle.room_base.specs.Faults.{Rose}
-use Rattle.room_base.specs.Outside.{SourceView, SinkView, ClockView, Told, GainsFront}
+use Rattle.room_base.specs.Outside.{SourceView, SinkView, ClockView, Told, AddsFront}
 use Rattle.room_base.specs.declared.refusal.Refusal.TheVariants as refusals
 use Rattle.room_disk.specs.Disk.{DiskView, Quiet, Others, Settled, Leaves, OnFile}
 use Rattle.volume_block.specs.declared.label.Label.{Label}
-use Rattle.volume_store.specs.Writes.{file_of}
+use Rattle.volume_store.specs.Writes.{cart_file}
 use Rattle.room_top.specs.Raw.{GivesFile, IsDamagedAt, IsStrange}
-use Rattle.room_top.specs.Put.{HasSize, Gains, IsPut, IsOccupied, IsFull, kept_line}
+use Rattle.room_top.specs.Put.{HasSize, HasOneFileMore, IsPut, IsOccupied, IsFull, kept_line}
 use Rattle.room_top.specs.Words.{ArePut, AreGet, Misfit}
 use Rattle.room_top.specs.declared.status.Status.{Status}
 use Rattle.room_top.specs.declared.status.Status.TheVariants as status
@@ -43,7 +43,7 @@ PutCause cart before now status.Done = Unit {0}
 PutCause cart before now status.Memory = Unit {0}
 PutCause cart before now status.ReadFault = Rose before.input now.input
 PutCause cart before now status.WriteFault = Rose before.out now.out
-PutCause cart before now status.DiskFault = Rose (before.disk (file_of cart)) (now.disk (file_of cart))
+PutCause cart before now status.DiskFault = Rose (before.disk (cart_file cart)) (now.disk (cart_file cart))
 PutCause cart before now status.ClockFault = Rose before.clock now.clock
 PutCause cart before now (status.Refused (refusals.Malformed field)) = field ≡ codes "input"
 PutCause cart before now (status.Refused (refusals.TooMany limit)) = limit ≡ 257024
@@ -76,27 +76,27 @@ JudgesCartridge input before (status.Refused (refusals.NeedVolume pool)) = (byte
 JudgesCartridge input before other = Unit {0}
 
 -- the input is a file of the cartridge, which has this number, and stays there at every crash
-abbrev pub IsKept : SourceView → ℕ → DiskView → DiskView → List ℕ → ℕ → Type 0
-IsKept input cart old new bytes number = AreInput input bytes × Told old.tells
-    (Gains cart bytes (old.reads (file_of cart)) number (new.reads (file_of cart)) × Settled new (file_of cart))
+abbrev pub KeepsInput : SourceView → ℕ → DiskView → DiskView → List ℕ → ℕ → Type 0
+KeepsInput input cart old new bytes number = AreInput input bytes × Told old.tells
+    (HasOneFileMore cart bytes (old.reads (cart_file cart)) number (new.reads (cart_file cart)) × Settled new (cart_file cart))
 
 abbrev pub StoresFile : SourceView → ℕ → DiskView → DiskView → Status → Type 0
-StoresFile input cart old new status.Done = (bytes : List ℕ) × ((number : ℕ) × IsKept input cart old new bytes number)
-StoresFile input cart old new status.WriteFault = (bytes : List ℕ) × ((number : ℕ) × IsKept input cart old new bytes number)
+StoresFile input cart old new status.Done = (bytes : List ℕ) × ((number : ℕ) × KeepsInput input cart old new bytes number)
+StoresFile input cart old new status.WriteFault = (bytes : List ℕ) × ((number : ℕ) × KeepsInput input cart old new bytes number)
 StoresFile input cart old new other = Unit {0}
 
 -- what is printed: the whole line with the file's number, a front of it, or nothing
 abbrev pub Prints : SourceView → ℕ → DiskView → DiskView → List ℕ → List ℕ → Status → Type 0
-Prints input cart old new before now status.Done = (bytes : List ℕ) × ((number : ℕ) × IsKept input cart old new bytes number
+Prints input cart old new before now status.Done = (bytes : List ℕ) × ((number : ℕ) × KeepsInput input cart old new bytes number
     × (now ≡ before ++ kept_line (length bytes) number cart))
-Prints input cart old new before now status.WriteFault = (bytes : List ℕ) × ((number : ℕ) × IsKept input cart old new bytes number
-    × GainsFront before now (kept_line (length bytes) number cart))
+Prints input cart old new before now status.WriteFault = (bytes : List ℕ) × ((number : ℕ) × KeepsInput input cart old new bytes number
+    × AddsFront before now (kept_line (length bytes) number cart))
 Prints input cart old new before now other = now ≡ before
 
 -- At every moment a crash leaves the cartridge as `IsPut` says; each other file stays.
 abbrev pub TouchesCartridge : SourceView → ℕ → DiskView → DiskView → Type 0
-TouchesCartridge input cart old new = Others (file_of cart) old new × ((bytes : List ℕ) × AreInput input bytes
-    × Leaves old new (OnFile (file_of cart) (IsPut cart bytes (old.reads (file_of cart))) old))
+TouchesCartridge input cart old new = Others (cart_file cart) old new × ((bytes : List ℕ) × AreInput input bytes
+    × Leaves old new (OnFile (cart_file cart) (IsPut cart bytes (old.reads (cart_file cart))) old))
 
 -- what `put` leaves of the disk: a refusal before the first write leaves it as it was
 abbrev pub LeavesDisk : SourceView → ℕ → DiskView → DiskView → Status → Type 0
@@ -123,17 +123,17 @@ GetsCause cart number out_before out_now disk_before disk_now other = ⊥
 
 abbrev pub GetCause : ℕ → ℕ → Counts → Counts → Status → Type 0
 GetCause cart number before now answer =
-    GetsCause cart number before.out now.out (before.disk (file_of cart)) (now.disk (file_of cart)) answer
+    GetsCause cart number before.out now.out (before.disk (cart_file cart)) (now.disk (cart_file cart)) answer
 
 -- the bytes of the file with this number, where the disk tells them
 abbrev pub AreOnDisk : DiskView → ℕ → ℕ → List ℕ → Type 0
-AreOnDisk disk cart number bytes = Told disk.tells (GivesFile (disk.reads (file_of cart)) number bytes)
+AreOnDisk disk cart number bytes = Told disk.tells (GivesFile (disk.reads (cart_file cart)) number bytes)
 
 -- what is written: the file's bytes, a front of them, or nothing
-abbrev pub Gives : DiskView → ℕ → ℕ → List ℕ → List ℕ → Status → Type 0
-Gives disk cart number before now status.Done = (bytes : List ℕ) × AreOnDisk disk cart number bytes × (now ≡ before ++ bytes)
-Gives disk cart number before now status.WriteFault = (bytes : List ℕ) × AreOnDisk disk cart number bytes × GainsFront before now bytes
-Gives disk cart number before now other = now ≡ before
+abbrev pub GetWrites : DiskView → ℕ → ℕ → List ℕ → List ℕ → Status → Type 0
+GetWrites disk cart number before now status.Done = (bytes : List ℕ) × AreOnDisk disk cart number bytes × (now ≡ before ++ bytes)
+GetWrites disk cart number before now status.WriteFault = (bytes : List ℕ) × AreOnDisk disk cart number bytes × AddsFront before now bytes
+GetWrites disk cart number before now other = now ≡ before
 
 -- ---- either of them
 

@@ -5,10 +5,10 @@ use Rattle.room_base.specs.Faults.{Rose}
 use Rattle.room_base.specs.declared.refusal.Refusal.TheVariants as refusals
 use Rattle.room_disk.specs.Disk.{DiskView, Quiet, Settled}
 use Rattle.volume_block.specs.declared.label.Label.{Label}
-use Rattle.volume_store.specs.Committed.{block_at, IsPlace, Damaged, CommittedFile, Committed, Unlabelled, HasLabel}
+use Rattle.volume_store.specs.Committed.{block_at, IsDataPlace, Damaged, CommittedFile, Committed, Unlabelled, HasLabel}
 use Rattle.volume_store.specs.declared.marks.FilePlace.{FilePlace}
 use Rattle.room_top.specs.Raw.{raw_label, IsRaw, HasBytes, IsFileOn, IsFirstDamaged, GivesFile, IsDamagedIn, LacksFile, IsDamagedAt, IsStrange}
-use Rattle.room_top.specs.Put.{Gains, IsOccupied, blocks_for, IsSite, IsReady, IsFull}
+use Rattle.room_top.specs.Put.{HasOneFileMore, IsOccupied, blocks_for, IsSite, IsSiteFor, IsFull}
 use Rattle.room_top.specs.declared.site.Site.{Site}
 use Rattle.room_top.specs.declared.site.Site.TheVariants as sites
 use Rattle.room_top.specs.declared.get.DataFault.{DataFault}
@@ -90,7 +90,7 @@ SettlesSite disk file (Err other) = Unit {0}
 
 -- the same of a cartridge that gets a label
 abbrev pub IsNewSite : ℕ → ℕ → ℕ → ℕ → Result Site Status → Type 0
-IsNewSite cart size before now (Ok (sites.New label)) = ((made : ℕ) × (label ≡ raw_label cart made)) × IsReady cart size (sites.New label)
+IsNewSite cart size before now (Ok (sites.New label)) = ((made : ℕ) × (label ≡ raw_label cart made)) × IsSiteFor cart size (sites.New label)
 IsNewSite cart size before now (Ok (sites.Next volume number)) = ⊥
 IsNewSite cart size before now (Err status.ClockFault) = Rose before now
 IsNewSite cart size before now (Err other) = ⊥
@@ -126,7 +126,7 @@ StoreCause before now (Err other) = ⊥
 
 -- what each answer says of the disk: but for a fault of the disk, a failure leaves it as it was
 abbrev pub Stores : ℕ → ℕ → List ℕ → ℕ → DiskView → DiskView → Result (Unit {0}) Status → Type 0
-Stores file cart bytes number old new (Ok _) = Gains cart bytes (old.reads file) number (new.reads file) × Settled new file
+Stores file cart bytes number old new (Ok _) = HasOneFileMore cart bytes (old.reads file) number (new.reads file) × Settled new file
 Stores file cart bytes number old new (Err status.DiskFault) = Unit {0}
 Stores file cart bytes number old new (Err other) = Quiet old new
 
@@ -193,7 +193,7 @@ abbrev pub IsDataRead : List ℕ → ℕ → ℕ → List ℕ → Result (Unit {
 IsDataRead disk volid number block (Ok _) = block ≡ block_at disk number
 IsDataRead disk volid number block (Err faults.Memory) = Unit {0}
 IsDataRead disk volid number block (Err faults.Failed) = Unit {0}
-IsDataRead disk volid number block (Err (faults.Damaged bad)) = (bad ≡ number) × IsPlace disk volid number Damaged
+IsDataRead disk volid number block (Err (faults.Damaged bad)) = (bad ≡ number) × IsDataPlace disk volid number Damaged
 
 -- the bytes of the data blocks of a file, or the first that is damaged
 abbrev pub GivesPlaces : {T : Type 0} → (T → List ℕ) → CommittedFile → Result T DataFault → Type 0

@@ -1,7 +1,7 @@
 -- What the program's arguments ask for.
 use Rattle.std.specs.Prelude.{◌≡◌, ◌⊎◌, ℕ, List, [], ◌∷◌, ◌++◌, codes, map, string_bytes, Result, Ok, Err}
 use Rattle.room_base.specs.Faults.{Rose}
-use Rattle.room_base.specs.Outside.{GainsFront}
+use Rattle.room_base.specs.Outside.{AddsFront}
 use Rattle.room_base.specs.Text.{IsName, HasLength}
 use Rattle.room_top.specs.Words.{Misfit}
 use Rattle.room_top.specs.declared.start.Request.{Request}
@@ -42,7 +42,7 @@ IsToldBy before now other = ⊥
 
 abbrev pub TellsText : List ℕ → List ℕ → List ℕ → Status → Type 0
 TellsText before now text status.Done = now ≡ before ++ text
-TellsText before now text status.WriteFault = GainsFront before now text
+TellsText before now text status.WriteFault = AddsFront before now text
 TellsText before now text other = ⊥
 
 -- a status that the words may lead to: a word that doesn't fit is the first, or the first behind the folder

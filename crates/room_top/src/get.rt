@@ -3,10 +3,10 @@ ghost use Rattle.room_base.specs.Outside.{Told};
 ghost use Rattle.room_disk.specs.Disk.{Quiet};
 ghost use Rattle.volume_block.specs.Chunks.{ChunkText};
 ghost use Rattle.volume_block.specs.Valid.{HoldsChunks};
-ghost use Rattle.volume_store.specs.Committed.{CommittedFile, HasLabel, ArePlaces};
-ghost use Rattle.volume_store.specs.Writes.{file_of, IsCart};
+ghost use Rattle.volume_store.specs.Committed.{CommittedFile, HasLabel, AreDataPlaces};
+ghost use Rattle.volume_store.specs.Writes.{cart_file, IsCart};
 ghost use Rattle.room_top.specs.Raw.{IsRaw, joined};
-ghost use Rattle.room_top.specs.Run.{status_of, Gives, GetsCause};
+ghost use Rattle.room_top.specs.Run.{status_of, GetWrites, GetsCause};
 ghost use Rattle.room_top.specs.Stages.{LabelCause, ReadCause, Reads, DataCause, FindsRawLabel, FindsPlace, GivesPlaces, IsPlaceWithin, IsRawOrStrange, IsDataRead, JudgesRead};
 
 use crate::Status;
@@ -38,11 +38,11 @@ pub fn read_file<D: Store>(
     requires cart { IsCart cart.0 }
     requires number { 1 ≤ number }
     ensures later { (file : ℕ) → (D.view disk.old).faults file ≤ (D.view disk.new).faults file }
-    ensures cause { ReadCause cart.0 number ((D.view disk.old).faults (file_of cart.0)) ((D.view disk.new).faults (file_of cart.0)) result }
+    ensures cause { ReadCause cart.0 number ((D.view disk.old).faults (cart_file cart.0)) ((D.view disk.new).faults (cart_file cart.0)) result }
     ensures tells { (D.view disk.new).tells ≡ (D.view disk.old).tells }
     ensures quiet { Told (D.view disk.old).tells (Quiet (D.view disk.old) (D.view disk.new)) }
     ensures read { Told (D.view disk.old).tells
-        (Reads (λ bytes. bytes.items) number ((D.view disk.old).reads (file_of cart.0)) result) }
+        (Reads (λ bytes. bytes.items) number ((D.view disk.old).reads (cart_file cart.0)) result) }
 {
     let label = find_raw_label(cart, disk)?;
     let place = find_place(alloc, cart, &label, number, disk)?;
@@ -58,10 +58,10 @@ pub fn read_file<D: Store>(
 fn find_raw_label<D: Store>(cart: Cart, disk: &mut D) -> Result<Label, Status>
     requires { IsCart cart.0 }
     ensures later { (file : ℕ) → (D.view disk.old).faults file ≤ (D.view disk.new).faults file }
-    ensures cause { LabelCause cart.0 ((D.view disk.old).faults (file_of cart.0)) ((D.view disk.new).faults (file_of cart.0)) result }
+    ensures cause { LabelCause cart.0 ((D.view disk.old).faults (cart_file cart.0)) ((D.view disk.new).faults (cart_file cart.0)) result }
     ensures tells { (D.view disk.new).tells ≡ (D.view disk.old).tells }
     ensures quiet { Told (D.view disk.old).tells (Quiet (D.view disk.old) (D.view disk.new)) }
-    ensures found { Told (D.view disk.old).tells (FindsRawLabel ((D.view disk.old).reads (file_of cart.0)) result) }
+    ensures found { Told (D.view disk.old).tells (FindsRawLabel ((D.view disk.old).reads (cart_file cart.0)) result) }
 {
     let Ok(found) = read_label(disk, cart) else {
         return Err(Status::DiskFault);
@@ -94,12 +94,12 @@ fn find_place<D: Store>(
     requires cart { IsCart cart.0 }
     requires number { 1 ≤ number }
     ensures later { (file : ℕ) → (D.view disk.old).faults file ≤ (D.view disk.new).faults file }
-    ensures cause { ReadCause cart.0 number ((D.view disk.old).faults (file_of cart.0)) ((D.view disk.new).faults (file_of cart.0)) result }
+    ensures cause { ReadCause cart.0 number ((D.view disk.old).faults (cart_file cart.0)) ((D.view disk.new).faults (cart_file cart.0)) result }
     ensures tells { (D.view disk.new).tells ≡ (D.view disk.old).tells }
     ensures within { IfOk result IsPlaceWithin }
     ensures quiet { Told (D.view disk.old).tells (Quiet (D.view disk.old) (D.view disk.new)) }
-    ensures found { Told (D.view disk.old).tells (HasLabel ((D.view disk.old).reads (file_of cart.0)) label.now → IsRaw label.now
-        → FindsPlace ((D.view disk.old).reads (file_of cart.0)) number label.now result) }
+    ensures found { Told (D.view disk.old).tells (HasLabel ((D.view disk.old).reads (cart_file cart.0)) label.now → IsRaw label.now
+        → FindsPlace ((D.view disk.old).reads (cart_file cart.0)) number label.now result) }
 {
     match walk_marks(disk, cart, label.volid, number) {
         Ok(walk) => match walk.wanted {
@@ -122,11 +122,11 @@ fn read_places<D: Store>(
     requires cart { IsCart cart.0 }
     requires place { IsPlaceWithin place }
     ensures later { (file : ℕ) → (D.view disk.old).faults file ≤ (D.view disk.new).faults file }
-    ensures cause { DataCause ((D.view disk.old).faults (file_of cart.0)) ((D.view disk.new).faults (file_of cart.0)) result }
+    ensures cause { DataCause ((D.view disk.old).faults (cart_file cart.0)) ((D.view disk.new).faults (cart_file cart.0)) result }
     ensures tells { (D.view disk.new).tells ≡ (D.view disk.old).tells }
     ensures quiet { Told (D.view disk.old).tells (Quiet (D.view disk.old) (D.view disk.new)) }
     ensures given { Told (D.view disk.old).tells ((file : CommittedFile) → (place.mark ≡ file.mark) → (place.count ≡ length file.places)
-        → ArePlaces ((D.view disk.old).reads (file_of cart.0)) volid.0 (file.mark + 1) file.places
+        → AreDataPlaces ((D.view disk.old).reads (cart_file cart.0)) volid.0 (file.mark + 1) file.places
         → GivesPlaces (λ bytes. bytes.items) file result) }
 {
     let count = place.count as usize;
@@ -156,11 +156,11 @@ fn read_data<D: Store>(
     requires number { number < 2 ^ 52 }
     requires whole { length block.old ≡ 4096 }
     ensures later { (file : ℕ) → (D.view disk.old).faults file ≤ (D.view disk.new).faults file }
-    ensures cause { DataCause ((D.view disk.old).faults (file_of cart.0)) ((D.view disk.new).faults (file_of cart.0)) result }
+    ensures cause { DataCause ((D.view disk.old).faults (cart_file cart.0)) ((D.view disk.new).faults (cart_file cart.0)) result }
     ensures tells { (D.view disk.new).tells ≡ (D.view disk.old).tells }
     ensures quiet { Told (D.view disk.old).tells (Quiet (D.view disk.old) (D.view disk.new)) }
     ensures holds { OnOk result ((chunks : List ChunkText) × HoldsChunks block.new volid.0 number chunks) }
-    ensures read { Told (D.view disk.old).tells (IsDataRead ((D.view disk.old).reads (file_of cart.0)) volid.0 number block.new result) }
+    ensures read { Told (D.view disk.old).tells (IsDataRead ((D.view disk.old).reads (cart_file cart.0)) volid.0 number block.new result) }
 {
     match read_block(disk, cart, volid, number, block) {
         Ok(Block::Data { .. }) => Ok(()),
@@ -208,11 +208,11 @@ pub fn get<W: Sink, D: Store>(
     ensures out_later { (W.view out.old).faults ≤ (W.view out.new).faults }
     ensures disk_later { (file : ℕ) → (D.view disk.old).faults file ≤ (D.view disk.new).faults file }
     ensures cause { GetsCause cart.0 number (W.view out.old).faults (W.view out.new).faults
-        ((D.view disk.old).faults (file_of cart.0)) ((D.view disk.new).faults (file_of cart.0)) (status_of result) }
+        ((D.view disk.old).faults (cart_file cart.0)) ((D.view disk.new).faults (cart_file cart.0)) (status_of result) }
     ensures quiet { Told (D.view disk.old).tells (Quiet (D.view disk.old) (D.view disk.new)) }
-    ensures judged { Told (D.view disk.old).tells (JudgesRead number ((D.view disk.old).reads (file_of cart.0)) (status_of result)) }
+    ensures judged { Told (D.view disk.old).tells (JudgesRead number ((D.view disk.old).reads (cart_file cart.0)) (status_of result)) }
     ensures given { Told (W.view out.old).tells
-        (Gives (D.view disk.old) cart.0 number (W.view out.old).written (W.view out.new).written (status_of result)) }
+        (GetWrites (D.view disk.old) cart.0 number (W.view out.old).written (W.view out.new).written (status_of result)) }
 {
     let bytes = read_file(alloc, cart, number, disk)?;
     match write_all(out, &bytes) {

@@ -1,6 +1,6 @@
 ghost use Rattle.std.specs.Prelude.{◌≡◌, IfOk, string_bytes};
 ghost use Rattle.room_base.specs.Outside.{Told};
-ghost use Rattle.volume_store.specs.Writes.{file_of, IsCart};
+ghost use Rattle.volume_store.specs.Writes.{cart_file, IsCart};
 ghost use Rattle.room_top.specs.Put.{kept_line};
 ghost use Rattle.room_top.specs.Run.{status_of, counts, Later, PutCause, JudgesBytes, JudgesCartridge, Prints, StoresFile, LeavesDisk};
 
@@ -31,7 +31,7 @@ pub fn put<S: Source, W: Sink, D: Store, C: Clock>(
         (status_of result) }
     ensures bytes { Told (S.view input.old).tells (JudgesBytes (S.view input.old).left (S.view input.new).left (status_of result)) }
     ensures cartridge { Told (D.view disk.old).tells
-        (JudgesCartridge (S.view input.old) ((D.view disk.old).reads (file_of cart.0)) (status_of result)) }
+        (JudgesCartridge (S.view input.old) ((D.view disk.old).reads (cart_file cart.0)) (status_of result)) }
     ensures printed { Told (W.view out.old).tells
         (Prints (S.view input.old) cart.0 (D.view disk.old) (D.view disk.new) (W.view out.old).written (W.view out.new).written (status_of result)) }
     ensures stored { StoresFile (S.view input.old) cart.0 (D.view disk.old) (D.view disk.new) (status_of result) }

@@ -13,7 +13,7 @@ use std::alloc::Global;
 pub fn report<E: Sink>(alloc: Global, err: &mut E, status: &Status)
     ensures later { (E.view err.old).faults ≤ (E.view err.new).faults }
     ensures tells { (E.view err.new).tells ≡ (E.view err.old).tells }
-    ensures told { Told (E.view err.old).tells (Reports status.now (E.view err.old) (E.view err.new)) }
+    ensures reported { Told (E.view err.old).tells (Reports status.now (E.view err.old) (E.view err.new)) }
 {
     match status {
         Status::Done => {}
@@ -31,7 +31,7 @@ pub fn report<E: Sink>(alloc: Global, err: &mut E, status: &Status)
 fn write_line<E: Sink>(err: &mut E, line: &[u8])
     ensures later { (E.view err.old).faults ≤ (E.view err.new).faults }
     ensures tells { (E.view err.new).tells ≡ (E.view err.old).tells }
-    ensures told { Told (E.view err.old).tells (WritesLine line.now (E.view err.old) (E.view err.new)) }
+    ensures reported { Told (E.view err.old).tells (WritesLine line.now (E.view err.old) (E.view err.new)) }
 {
     let _ = write_all(err, line);
 }
@@ -39,7 +39,7 @@ fn write_line<E: Sink>(err: &mut E, line: &[u8])
 fn report_usage<E: Sink>(err: &mut E, word: &[u8])
     ensures later { (E.view err.old).faults ≤ (E.view err.new).faults }
     ensures tells { (E.view err.new).tells ≡ (E.view err.old).tells }
-    ensures told { Told (E.view err.old).tells (WritesLine (usage_line word.now) (E.view err.old) (E.view err.new)) }
+    ensures reported { Told (E.view err.old).tells (WritesLine (usage_line word.now) (E.view err.old) (E.view err.new)) }
 {
     let _ = write_usage(err, word);
 }
@@ -58,7 +58,7 @@ fn write_usage<E: Sink>(err: &mut E, word: &[u8]) -> Result<(), Failed>
 fn report_refusal<E: Sink>(alloc: Global, err: &mut E, refusal: &Refusal)
     ensures later { (E.view err.old).faults ≤ (E.view err.new).faults }
     ensures tells { (E.view err.new).tells ≡ (E.view err.old).tells }
-    ensures told { Told (E.view err.old).tells (ReportsRefusal (E.view err.old) (E.view err.new)) }
+    ensures reported { Told (E.view err.old).tells (ReportsRefusal (E.view err.old) (E.view err.new)) }
 {
     match format!(in alloc; " {refusal}\n") {
         Ok(text) => end_refusal(err, text.as_bytes()),
@@ -70,7 +70,7 @@ fn report_refusal<E: Sink>(alloc: Global, err: &mut E, refusal: &Refusal)
 fn end_refusal<E: Sink>(err: &mut E, text: &[u8])
     ensures later { (E.view err.old).faults ≤ (E.view err.new).faults }
     ensures tells { (E.view err.new).tells ≡ (E.view err.old).tells }
-    ensures told { Told (E.view err.old).tells (WritesLine (refusal_line text.now) (E.view err.old) (E.view err.new)) }
+    ensures reported { Told (E.view err.old).tells (WritesLine (refusal_line text.now) (E.view err.old) (E.view err.new)) }
 {
     let _ = write_refusal(err, text);
 }

@@ -1,10 +1,10 @@
 ghost use Rattle.std.specs.Prelude.{◌≡◌, ◌≤◌, map, string_bytes};
 ghost use Rattle.room_base.specs.Outside.{Told};
 ghost use Rattle.room_disk.specs.Disk.{Quiet};
-ghost use Rattle.volume_store.specs.Writes.{file_of};
+ghost use Rattle.volume_store.specs.Writes.{cart_file};
 ghost use Rattle.room_top.specs.Stages.{JudgesRead};
 ghost use Rattle.room_top.specs.Report.{Reports};
-ghost use Rattle.room_top.specs.Run.{status_of, counts, Later, PutCause, GetCause, JudgesBytes, JudgesCartridge, Prints, Gives, StoresFile, LeavesDisk, ForCommand, UnlessRun};
+ghost use Rattle.room_top.specs.Run.{status_of, counts, Later, PutCause, GetCause, JudgesBytes, JudgesCartridge, Prints, GetWrites, StoresFile, LeavesDisk, ForCommand, UnlessRun};
 
 use crate::Status;
 use crate::get::get;
@@ -40,13 +40,13 @@ pub fn run<S: Source, W: Sink, E: Sink, D: Store, C: Clock>(
         (λ _. JudgesBytes (S.view input.old).left (S.view input.new).left result)
         (λ _ _. (S.view input.new).left ≡ (S.view input.old).left)) }
     ensures cartridge { Told (D.view disk.old).tells (ForCommand (map string_bytes words.now) result
-        (λ cart. JudgesCartridge (S.view input.old) ((D.view disk.old).reads (file_of cart)) result)
-        (λ cart number. JudgesRead number ((D.view disk.old).reads (file_of cart)) result)) }
+        (λ cart. JudgesCartridge (S.view input.old) ((D.view disk.old).reads (cart_file cart)) result)
+        (λ cart number. JudgesRead number ((D.view disk.old).reads (cart_file cart)) result)) }
 
     // What is written, what is stored, and what a crash at any moment of the run leaves.
     ensures written { Told (W.view out.old).tells (ForCommand (map string_bytes words.now) result
         (λ cart. Prints (S.view input.old) cart (D.view disk.old) (D.view disk.new) (W.view out.old).written (W.view out.new).written result)
-        (λ cart number. Gives (D.view disk.old) cart number (W.view out.old).written (W.view out.new).written result)) }
+        (λ cart number. GetWrites (D.view disk.old) cart number (W.view out.old).written (W.view out.new).written result)) }
     ensures silent { Told (W.view out.old).tells (UnlessRun result ((W.view out.new).written ≡ (W.view out.old).written)) }
     ensures stored { ForCommand (map string_bytes words.now) result
         (λ cart. StoresFile (S.view input.old) cart (D.view disk.old) (D.view disk.new) result) (λ _ _. Unit {0}) }
@@ -56,7 +56,7 @@ pub fn run<S: Source, W: Sink, E: Sink, D: Store, C: Clock>(
     ensures quiet { Told (D.view disk.old).tells (UnlessRun result (Quiet (D.view disk.old) (D.view disk.new))) }
 
     // What the operator is told.
-    ensures told { Told (E.view err.old).tells (Reports result (E.view err.old) (E.view err.new)) }
+    ensures reported { Told (E.view err.old).tells (Reports result (E.view err.old) (E.view err.new)) }
 {
     let status = status_from(obey(alloc, words, input, out, disk, clock));
     report(alloc, err, &status);
@@ -95,13 +95,13 @@ fn obey<S: Source, W: Sink, D: Store, C: Clock>(
         (λ _. JudgesBytes (S.view input.old).left (S.view input.new).left (status_of result))
         (λ _ _. (S.view input.new).left ≡ (S.view input.old).left)) }
     ensures cartridge { Told (D.view disk.old).tells (ForCommand (map string_bytes words.now) (status_of result)
-        (λ cart. JudgesCartridge (S.view input.old) ((D.view disk.old).reads (file_of cart)) (status_of result))
-        (λ cart number. JudgesRead number ((D.view disk.old).reads (file_of cart)) (status_of result))) }
+        (λ cart. JudgesCartridge (S.view input.old) ((D.view disk.old).reads (cart_file cart)) (status_of result))
+        (λ cart number. JudgesRead number ((D.view disk.old).reads (cart_file cart)) (status_of result))) }
 
     // What is written, what is stored, and what a crash at any moment of the run leaves.
     ensures written { Told (W.view out.old).tells (ForCommand (map string_bytes words.now) (status_of result)
         (λ cart. Prints (S.view input.old) cart (D.view disk.old) (D.view disk.new) (W.view out.old).written (W.view out.new).written (status_of result))
-        (λ cart number. Gives (D.view disk.old) cart number (W.view out.old).written (W.view out.new).written (status_of result))) }
+        (λ cart number. GetWrites (D.view disk.old) cart number (W.view out.old).written (W.view out.new).written (status_of result))) }
     ensures silent { Told (W.view out.old).tells (UnlessRun (status_of result) ((W.view out.new).written ≡ (W.view out.old).written)) }
     ensures stored { ForCommand (map string_bytes words.now) (status_of result)
         (λ cart. StoresFile (S.view input.old) cart (D.view disk.old) (D.view disk.new) (status_of result)) (λ _ _. Unit {0}) }

@@ -5,8 +5,8 @@ ghost use Rattle.room_base.specs.Outside.{Told};
 ghost use Rattle.room_disk.specs.Disk.{Quiet};
 ghost use Rattle.volume_block.specs.Valid.{IsLabel};
 ghost use Rattle.volume_store.specs.Committed.{HasLabel};
-ghost use Rattle.volume_store.specs.Writes.{file_of, IsCart};
-ghost use Rattle.room_top.specs.Put.{IsReady, number_of, mark_of, volid_of};
+ghost use Rattle.volume_store.specs.Writes.{cart_file, IsCart};
+ghost use Rattle.room_top.specs.Put.{IsSiteFor, site_number, site_mark, site_volid};
 ghost use Rattle.room_top.specs.Stages.{SiteCause, JudgesSite, SettlesSite, IsNewSite, NextCause, IsPlaceBehind};
 
 use crate::Status;
@@ -30,7 +30,7 @@ pub enum Site {
 impl Site {
     /// The number that the file gets, counted from 1.
     pub fn number(&self) -> u64
-        ensures { result ≡ number_of self.now }
+        ensures { result ≡ site_number self.now }
     {
         match self {
             Site::New(_) => 1,
@@ -39,7 +39,7 @@ impl Site {
     }
 
     pub fn mark(&self) -> u64
-        ensures { result ≡ mark_of self.now }
+        ensures { result ≡ site_mark self.now }
     {
         match self {
             Site::New(_) => FIRST_MARK,
@@ -48,7 +48,7 @@ impl Site {
     }
 
     pub fn volid(&self) -> Volid
-        ensures { result.0 ≡ volid_of self.now }
+        ensures { result.0 ≡ site_volid self.now }
     {
         match self {
             Site::New(label) => label.volid,
@@ -70,14 +70,14 @@ pub fn find_site<D: Store, C: Clock>(
     requires size { (1 ≤ size) × (size ≤ 257024) }
     ensures disk_later { (file : ℕ) → (D.view disk.old).faults file ≤ (D.view disk.new).faults file }
     ensures clock_later { (C.view clock.old).faults ≤ (C.view clock.new).faults }
-    ensures cause { SiteCause cart.0 ((D.view disk.old).faults (file_of cart.0)) ((D.view disk.new).faults (file_of cart.0))
+    ensures cause { SiteCause cart.0 ((D.view disk.old).faults (cart_file cart.0)) ((D.view disk.new).faults (cart_file cart.0))
         (C.view clock.old).faults (C.view clock.new).faults result }
     ensures disk_tells { (D.view disk.new).tells ≡ (D.view disk.old).tells }
     ensures clock_tells { (C.view clock.new).tells ≡ (C.view clock.old).tells }
-    ensures ready { IfOk result (IsReady cart.0 size) }
+    ensures ready { IfOk result (IsSiteFor cart.0 size) }
     ensures quiet { Told (D.view disk.old).tells (Quiet (D.view disk.old) (D.view disk.new)) }
-    ensures settled { Told (D.view disk.old).tells (SettlesSite (D.view disk.new) (file_of cart.0) result) }
-    ensures judged { Told (D.view disk.old).tells (JudgesSite cart.0 size ((D.view disk.old).reads (file_of cart.0)) result) }
+    ensures settled { Told (D.view disk.old).tells (SettlesSite (D.view disk.new) (cart_file cart.0) result) }
+    ensures judged { Told (D.view disk.old).tells (JudgesSite cart.0 size ((D.view disk.old).reads (cart_file cart.0)) result) }
 {
     let Ok(found) = read_label(disk, cart) else {
         return Err(Status::DiskFault);
@@ -115,12 +115,12 @@ fn next_site<D: Store>(
     requires size { (1 ≤ size) × (size ≤ 257024) }
     requires label { IsLabel label.now }
     ensures later { (file : ℕ) → (D.view disk.old).faults file ≤ (D.view disk.new).faults file }
-    ensures cause { NextCause cart.0 ((D.view disk.old).faults (file_of cart.0)) ((D.view disk.new).faults (file_of cart.0)) result }
+    ensures cause { NextCause cart.0 ((D.view disk.old).faults (cart_file cart.0)) ((D.view disk.new).faults (cart_file cart.0)) result }
     ensures tells { (D.view disk.new).tells ≡ (D.view disk.old).tells }
-    ensures ready { IfOk result (IsReady cart.0 size) }
+    ensures ready { IfOk result (IsSiteFor cart.0 size) }
     ensures quiet { Told (D.view disk.old).tells (Quiet (D.view disk.old) (D.view disk.new)) }
-    ensures judged { Told (D.view disk.old).tells (HasLabel ((D.view disk.old).reads (file_of cart.0)) label.now
-        → JudgesSite cart.0 size ((D.view disk.old).reads (file_of cart.0)) result) }
+    ensures judged { Told (D.view disk.old).tells (HasLabel ((D.view disk.old).reads (cart_file cart.0)) label.now
+        → JudgesSite cart.0 size ((D.view disk.old).reads (cart_file cart.0)) result) }
 {
     if !is_raw(label) {
         return Err(occupied(alloc, cart));

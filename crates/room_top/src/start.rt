@@ -43,8 +43,8 @@ where
     let mut out = StdSink::new(out);
     let mut err = StdSink::new(err);
     match read_arguments(rt) {
-        Ok(Request::Help) => told(alloc, &mut out, &mut err, HELP),
-        Ok(Request::Version) => told(alloc, &mut out, &mut err, VERSION),
+        Ok(Request::Help) => write_text(alloc, &mut out, &mut err, HELP),
+        Ok(Request::Version) => write_text(alloc, &mut out, &mut err, VERSION),
         Ok(Request::Run { folder, words }) => {
             let mut input = StdSource::new(rt.reader());
             let mut disk = FolderStore::new(rt, alloc, folder);
@@ -130,7 +130,7 @@ fn folder_of(alloc: Global, word: &str) -> Result<Name, Status>
 }
 
 // Writes a text that was asked for.
-fn told<W: Sink, E: Sink>(alloc: Global, out: &mut W, err: &mut E, text: &[u8]) -> Status
+fn write_text<W: Sink, E: Sink>(alloc: Global, out: &mut W, err: &mut E, text: &[u8]) -> Status
     ensures out_later { (W.view out.old).faults ≤ (W.view out.new).faults }
     ensures err_later { (E.view err.old).faults ≤ (E.view err.new).faults }
     ensures cause { IsToldBy (W.view out.old).faults (W.view out.new).faults result }

@@ -5,9 +5,9 @@ ghost use Rattle.volume_block.specs.Chunks.{ChunkText};
 ghost use Rattle.volume_block.specs.Valid.{IsLabel};
 ghost use Rattle.volume_block.specs.Region.{IsSealed};
 ghost use Rattle.volume_store.specs.Committed.{Committed};
-ghost use Rattle.volume_store.specs.Writes.{file_of, IsCart, with_file};
+ghost use Rattle.volume_store.specs.Writes.{cart_file, IsCart, with_file};
 ghost use Rattle.room_top.specs.Raw.{JoinTo};
-ghost use Rattle.room_top.specs.Put.{HasSize, Gains, IsPut, IsFirstFile, IsSite, IsReady, HasRoom, number_of, mark_of, volid_of};
+ghost use Rattle.room_top.specs.Put.{HasSize, HasOneFileMore, IsPut, IsFirstFile, IsSite, IsSiteFor, HasRoom, site_number, site_mark, site_volid};
 ghost use Rattle.room_top.specs.Stages.{StoreCause, Stores};
 
 use crate::Status;
@@ -29,17 +29,17 @@ pub fn store_file<D: Store>(
 ) -> Result<(), Status>
     requires cart { IsCart cart.0 }
     requires size { HasSize bytes.now }
-    requires ready { IsReady cart.0 (length bytes.now) site.now }
+    requires ready { IsSiteFor cart.0 (length bytes.now) site.now }
     ensures later { (file : ℕ) → (D.view disk.old).faults file ≤ (D.view disk.new).faults file }
-    ensures cause { StoreCause ((D.view disk.old).faults (file_of cart.0)) ((D.view disk.new).faults (file_of cart.0)) result }
+    ensures cause { StoreCause ((D.view disk.old).faults (cart_file cart.0)) ((D.view disk.new).faults (cart_file cart.0)) result }
     ensures tells { (D.view disk.new).tells ≡ (D.view disk.old).tells }
-    ensures others { Told (D.view disk.old).tells (Others (file_of cart.0) (D.view disk.old) (D.view disk.new)) }
-    ensures stored { Told (D.view disk.old).tells (IsSite cart.0 ((D.view disk.old).reads (file_of cart.0)) site.now
-        → Stores (file_of cart.0) cart.0 bytes.now (number_of site.now) (D.view disk.old) (D.view disk.new) result) }
-    ensures moments { Told (D.view disk.old).tells (IsSite cart.0 ((D.view disk.old).reads (file_of cart.0)) site.now
-        → Settled (D.view disk.old) (file_of cart.0)
-        → Leaves (D.view disk.old) (D.view disk.new) (OnFile (file_of cart.0)
-        (IsPut cart.0 bytes.now ((D.view disk.old).reads (file_of cart.0))) (D.view disk.old))) }
+    ensures others { Told (D.view disk.old).tells (Others (cart_file cart.0) (D.view disk.old) (D.view disk.new)) }
+    ensures stored { Told (D.view disk.old).tells (IsSite cart.0 ((D.view disk.old).reads (cart_file cart.0)) site.now
+        → Stores (cart_file cart.0) cart.0 bytes.now (site_number site.now) (D.view disk.old) (D.view disk.new) result) }
+    ensures moments { Told (D.view disk.old).tells (IsSite cart.0 ((D.view disk.old).reads (cart_file cart.0)) site.now
+        → Settled (D.view disk.old) (cart_file cart.0)
+        → Leaves (D.view disk.old) (D.view disk.new) (OnFile (cart_file cart.0)
+        (IsPut cart.0 bytes.now ((D.view disk.old).reads (cart_file cart.0))) (D.view disk.old))) }
 {
     let Ok(mut buffer) = MuxBuffer::new(alloc) else {
         return Err(Status::Memory);
@@ -64,25 +64,25 @@ fn store_region<D: Store>(
 ) -> Result<(), Failed>
     requires cart { IsCart cart.0 }
     requires sealed { (blocks : List (List ChunkText)) × (length blocks ≡ count)
-        × IsSealed (volid_of site.now) (mark_of site.now) blocks region.now }
+        × IsSealed (site_volid site.now) (site_mark site.now) blocks region.now }
     requires ready { HasRoom cart.0 count site.now }
-    ensures cause { FileCause (file_of cart.0) (D.view disk.old) (D.view disk.new) result }
+    ensures cause { FileCause (cart_file cart.0) (D.view disk.old) (D.view disk.new) result }
     ensures tells { (D.view disk.new).tells ≡ (D.view disk.old).tells }
-    ensures others { Told (D.view disk.old).tells (Others (file_of cart.0) (D.view disk.old) (D.view disk.new)) }
+    ensures others { Told (D.view disk.old).tells (Others (cart_file cart.0) (D.view disk.old) (D.view disk.new)) }
     ensures stored { Told (D.view disk.old).tells ((blocks : List (List ChunkText)) (bytes : List ℕ)
-        → IsSealed (volid_of site.now) (mark_of site.now) blocks region.now
-        → JoinTo (number_of site.now) blocks bytes
-        → IsSite cart.0 ((D.view disk.old).reads (file_of cart.0)) site.now
-        → OnOk result (Gains cart.0 bytes ((D.view disk.old).reads (file_of cart.0)) (number_of site.now)
-        ((D.view disk.new).reads (file_of cart.0)))) }
-    ensures settled { Told (D.view disk.old).tells (OnOk result (Settled (D.view disk.new) (file_of cart.0))) }
+        → IsSealed (site_volid site.now) (site_mark site.now) blocks region.now
+        → JoinTo (site_number site.now) blocks bytes
+        → IsSite cart.0 ((D.view disk.old).reads (cart_file cart.0)) site.now
+        → OnOk result (HasOneFileMore cart.0 bytes ((D.view disk.old).reads (cart_file cart.0)) (site_number site.now)
+        ((D.view disk.new).reads (cart_file cart.0)))) }
+    ensures settled { Told (D.view disk.old).tells (OnOk result (Settled (D.view disk.new) (cart_file cart.0))) }
     ensures moments { Told (D.view disk.old).tells ((blocks : List (List ChunkText)) (bytes : List ℕ)
-        → IsSealed (volid_of site.now) (mark_of site.now) blocks region.now
-        → JoinTo (number_of site.now) blocks bytes
-        → IsSite cart.0 ((D.view disk.old).reads (file_of cart.0)) site.now
-        → Settled (D.view disk.old) (file_of cart.0)
-        → Leaves (D.view disk.old) (D.view disk.new) (OnFile (file_of cart.0)
-        (IsPut cart.0 bytes ((D.view disk.old).reads (file_of cart.0))) (D.view disk.old))) }
+        → IsSealed (site_volid site.now) (site_mark site.now) blocks region.now
+        → JoinTo (site_number site.now) blocks bytes
+        → IsSite cart.0 ((D.view disk.old).reads (cart_file cart.0)) site.now
+        → Settled (D.view disk.old) (cart_file cart.0)
+        → Leaves (D.view disk.old) (D.view disk.new) (OnFile (cart_file cart.0)
+        (IsPut cart.0 bytes ((D.view disk.old).reads (cart_file cart.0))) (D.view disk.old))) }
 {
     match site {
         Site::New(label) => store_first_file(disk, label, region, count),
@@ -104,21 +104,21 @@ fn store_first_file<D: Store>(
     requires sealed { (blocks : List (List ChunkText)) × (length blocks ≡ count)
         × IsSealed label.now.volid.0 1 blocks region.now }
     requires room { count + 3 ≤ label.now.capacity }
-    ensures cause { FileCause (file_of label.now.cart.0) (D.view disk.old) (D.view disk.new) result }
+    ensures cause { FileCause (cart_file label.now.cart.0) (D.view disk.old) (D.view disk.new) result }
     ensures tells { (D.view disk.new).tells ≡ (D.view disk.old).tells }
     ensures others { Told (D.view disk.old).tells
-        (Others (file_of label.now.cart.0) (D.view disk.old) (D.view disk.new)) }
+        (Others (cart_file label.now.cart.0) (D.view disk.old) (D.view disk.new)) }
     ensures stored { Told (D.view disk.old).tells ((blocks : List (List ChunkText))
         → IsSealed label.now.volid.0 1 blocks region.now
-        → OnOk result (Committed ((D.view disk.new).reads (file_of label.now.cart.0))
+        → OnOk result (Committed ((D.view disk.new).reads (cart_file label.now.cart.0))
         (with_file label.now [] 1 blocks))) }
     ensures settled { Told (D.view disk.old).tells
-        (OnOk result (Settled (D.view disk.new) (file_of label.now.cart.0))) }
+        (OnOk result (Settled (D.view disk.new) (cart_file label.now.cart.0))) }
     ensures moments { Told (D.view disk.old).tells ((blocks : List (List ChunkText))
         → IsSealed label.now.volid.0 1 blocks region.now
-        → Settled (D.view disk.old) (file_of label.now.cart.0)
-        → Leaves (D.view disk.old) (D.view disk.new) (OnFile (file_of label.now.cart.0)
-        (IsFirstFile label.now blocks ((D.view disk.old).reads (file_of label.now.cart.0))) (D.view disk.old))) }
+        → Settled (D.view disk.old) (cart_file label.now.cart.0)
+        → Leaves (D.view disk.old) (D.view disk.new) (OnFile (cart_file label.now.cart.0)
+        (IsFirstFile label.now blocks ((D.view disk.old).reads (cart_file label.now.cart.0))) (D.view disk.old))) }
 {
     write_label(disk, label)?;
     let mut volume = Volume {

@@ -153,10 +153,10 @@ first-is : (text : List ℕ) (byte : ℕ) → slice_get text 0 ≡ Some byte →
 first-is [] byte is = absurd cc
 first-is (first ∷ rest) byte is = cc
 
-mark_of : EntryKind → ℕ
-mark_of kinds.File = 0x46
-mark_of kinds.Folder = 0x44
-mark_of kinds.Gone = 0x47
+kind_byte : EntryKind → ℕ
+kind_byte kinds.File = 0x46
+kind_byte kinds.Folder = 0x44
+kind_byte kinds.Gone = 0x47
 
 pub is_path-again : (text : List ℕ) → IsPathText text → is_path text ≡ true
 unfolding is_path
@@ -174,8 +174,8 @@ path-again last path rest fits is below =
     (both _ _ (lt-ltb 0 (length path) fits.0) (le-leb (length path) 1024 fits.1)))
     (allowed-again (λ p. is_path p && is_below last p) (path ++ rest) _ path rest (bytes-again path rest) (both _ _ (is_path-again path is) (is_below-again last path below)))
 
-kind-again : (count : ℕ) (kind : EntryKind) (rest : List ℕ) → count < max_entries → kind_at count (mark_of kind ∷ rest) ≡ Ok (kind, rest)
-unfolding kind_at mark_of
+kind-again : (count : ℕ) (kind : EntryKind) (rest : List ℕ) → count < max_entries → kind_at count (kind_byte kind ∷ rest) ≡ Ok (kind, rest)
+unfolding kind_at kind_byte
 kind-again count kinds.File rest room = let is : nat_lt count max_entries ≡ true = lt-ltb _ _ room in rw is refl
 kind-again count kinds.Folder rest room = let is : nat_lt count max_entries ≡ true = lt-ltb _ _ room in rw is refl
 kind-again count kinds.Gone rest room = let is : nat_lt count max_entries ≡ true = lt-ltb _ _ room in rw is refl
@@ -198,7 +198,7 @@ file_parts a b c d rest = simp append_assoc
 pub front-again : (count : ℕ) (last : List ℕ) (kind : EntryKind) (path : List ℕ) (mtime size : ℕ) (rest : List ℕ) → count < max_entries
     → HasLength 1024 path → IsPathText path → IsBelow last path → FitsKind kind mtime size
     → front_at count last (entry_front kind path mtime size ++ rest) ≡ Ok (record { kind = kind; path = path; mtime = mtime; size = size }, rest)
-unfolding front_at mark_of
+unfolding front_at kind_byte
 front-again count last kinds.File path mtime size rest room fits is below fields =
     ap (front_at count last) (file_parts (0x46 ∷ []) (long_text path) (number_text mtime) (number_text size) rest)
     ∙ then-again _ _ _ _ _ (kind-again count kinds.File _ room)

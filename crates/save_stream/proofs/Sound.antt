@@ -41,11 +41,11 @@ IsBytes-take n bytes is i =
     ]
 
 -- the bytes begin with a text, and these follow
-pub record Takes (bytes text rest : List ℕ) : Type 0 where
+pub record FollowsReading (bytes text rest : List ℕ) : Type 0 where
   pub parts : bytes ≡ text ++ rest
   pub rest_fits : IsBytes rest
 
-Takes-then : (a x b y c : List ℕ) → Takes a x b → Takes b y c → Takes a (x ++ y) c
+Takes-then : (a x b y c : List ℕ) → FollowsReading a x b → FollowsReading b y c → FollowsReading a (x ++ y) c
 Takes-then a x b y c first second =
     record { parts = first.parts ∙ ap (λ (t : List ℕ). x ++ t) second.parts ∙ sym (append_assoc x y c); rest_fits = second.rest_fits }
 
@@ -90,11 +90,11 @@ same_8 bytes = omega arith
 same_2 : (bytes : List ℕ) → big_from 0 2 bytes ≡ from_be_bytes w16 bytes
 same_2 bytes = omega arith
 
-byte-takes : (bytes : List ℕ) → IsBytes bytes → When (byte_at bytes) (λ byte rest. Takes bytes (byte ∷ []) rest)
+byte-takes : (bytes : List ℕ) → IsBytes bytes → When (byte_at bytes) (λ byte rest. FollowsReading bytes (byte ∷ []) rest)
 byte-takes [] is = tt
 byte-takes (byte ∷ bytes) is = record { parts = refl; rest_fits = λ i. is (suc i) }
 
-number-takes : (bytes : List ℕ) → IsBytes bytes → When (number_at 8 bytes) (λ number rest. Takes bytes (number_text number) rest × (number < 2 ^ 64))
+number-takes : (bytes : List ℕ) → IsBytes bytes → When (number_at 8 bytes) (λ number rest. FollowsReading bytes (number_text number) rest × (number < 2 ^ 64))
 unfolding number_at number_text
 number-takes bytes is =
     elim (cases_lt (length bytes) 8) [
@@ -106,7 +106,7 @@ number-takes bytes is =
           rw test (record { parts = sym (ap (λ (t : List ℕ). t ++ drop 8 bytes) text ∙ take-append-drop 8 bytes); rest_fits = IsBytes-drop 8 bytes is }, big_from-lt 0 8 bytes is))
     ]
 
-short_number-takes : (bytes : List ℕ) → IsBytes bytes → When (number_at 2 bytes) (λ number rest. Takes bytes (short_number_text number) rest)
+short_number-takes : (bytes : List ℕ) → IsBytes bytes → When (number_at 2 bytes) (λ number rest. FollowsReading bytes (short_number_text number) rest)
 unfolding number_at short_number_text
 short_number-takes bytes is =
     elim (cases_lt (length bytes) 2) [
@@ -118,7 +118,7 @@ short_number-takes bytes is =
           rw test (record { parts = sym (ap (λ (t : List ℕ). t ++ drop 2 bytes) text ∙ take-append-drop 2 bytes); rest_fits = IsBytes-drop 2 bytes is }))
     ]
 
-bytes-takes : (size : ℕ) (bytes : List ℕ) → IsBytes bytes → When (bytes_at size bytes) (λ text rest. Takes bytes text rest × (length text ≡ size))
+bytes-takes : (size : ℕ) (bytes : List ℕ) → IsBytes bytes → When (bytes_at size bytes) (λ text rest. FollowsReading bytes text rest × (length text ≡ size))
 unfolding bytes_at
 bytes-takes size bytes is =
     elim (cases_lt (length bytes) size) [
@@ -144,45 +144,45 @@ is_name-is text is =
     (IsUtf8-from_is_utf8 text parts.0, λ k d below. printable-is (get_or text k d) (AllPass-from_list_all is_printable text parts.1 k d below))
 
 text-takes : (least most : ℕ) (bytes : List ℕ) → IsBytes bytes
-    → When (text_at least most bytes) (λ text rest. Takes bytes (short_text text) rest × (least ≤ length text) × (length text ≤ most) × IsName text)
+    → When (text_at least most bytes) (λ text rest. FollowsReading bytes (short_text text) rest × (least ≤ length text) × (length text ≤ most) × IsName text)
 unfolding text_at
 text-takes least most bytes is =
     let allows : ℕ → Bool = λ n. nat_le least n && nat_le n most in
-    then-when (checked allows bytes (byte_at bytes)) _ (λ byte rest. Takes bytes (byte ∷ []) rest × (allows byte ≡ true)) _
-    (checked-when allows bytes (byte_at bytes) (λ byte rest. Takes bytes (byte ∷ []) rest) (byte-takes bytes is))
+    then-when (checked allows bytes (byte_at bytes)) _ (λ byte rest. FollowsReading bytes (byte ∷ []) rest × (allows byte ≡ true)) _
+    (checked-when allows bytes (byte_at bytes) (λ byte rest. FollowsReading bytes (byte ∷ []) rest) (byte-takes bytes is))
     (λ size start first.
     let bounds = both-true (nat_le least size) (nat_le size most) first.1 in
-    when-weaker (checked is_name start (bytes_at size start)) (λ text rest. (Takes start text rest × (length text ≡ size)) × (is_name text ≡ true)) _
-    (checked-when is_name start (bytes_at size start) (λ text rest. Takes start text rest × (length text ≡ size)) (bytes-takes size start first.0.rest_fits))
+    when-weaker (checked is_name start (bytes_at size start)) (λ text rest. (FollowsReading start text rest × (length text ≡ size)) × (is_name text ≡ true)) _
+    (checked-when is_name start (bytes_at size start) (λ text rest. FollowsReading start text rest × (length text ≡ size)) (bytes-takes size start first.0.rest_fits))
     (λ text rest second.
     let count = second.0.1 in (
-      subst (λ (n : ℕ). Takes bytes (n ∷ text) rest) (sym count) (Takes-then bytes (size ∷ []) start text rest first.0 second.0.0),
+      subst (λ (n : ℕ). FollowsReading bytes (n ∷ text) rest) (sym count) (Takes-then bytes (size ∷ []) start text rest first.0 second.0.0),
       omega (arith, count, leb-true least size bounds.0),
       omega (arith, count, leb-true size most bounds.1),
       is_name-is text second.1,
     )))
 
-mark-takes : (mark : ℕ) (bytes : List ℕ) → IsBytes bytes → When (mark_at mark bytes) (λ byte rest. Takes bytes (mark ∷ []) rest)
+mark-takes : (mark : ℕ) (bytes : List ℕ) → IsBytes bytes → When (mark_at mark bytes) (λ byte rest. FollowsReading bytes (mark ∷ []) rest)
 unfolding mark_at
 mark-takes mark bytes is =
-    when-weaker (checked (λ byte. eqb byte mark) bytes (byte_at bytes)) (λ byte rest. Takes bytes (byte ∷ []) rest × (eqb byte mark ≡ true)) (λ byte rest. Takes bytes (mark ∷ []) rest)
-    (checked-when (λ byte. eqb byte mark) bytes (byte_at bytes) (λ byte rest. Takes bytes (byte ∷ []) rest) (byte-takes bytes is))
-    (λ byte rest took. subst (λ (m : ℕ). Takes bytes (m ∷ []) rest) (eqb-true byte mark took.1) took.0)
+    when-weaker (checked (λ byte. eqb byte mark) bytes (byte_at bytes)) (λ byte rest. FollowsReading bytes (byte ∷ []) rest × (eqb byte mark ≡ true)) (λ byte rest. FollowsReading bytes (mark ∷ []) rest)
+    (checked-when (λ byte. eqb byte mark) bytes (byte_at bytes) (λ byte rest. FollowsReading bytes (byte ∷ []) rest) (byte-takes bytes is))
+    (λ byte rest took. subst (λ (m : ℕ). FollowsReading bytes (m ∷ []) rest) (eqb-true byte mark took.1) took.0)
 
 -- ---- the head
 
 -- a number of eight bytes that is allowed
 checked_number-takes : (allows : ℕ → Bool) (bytes : List ℕ) → IsBytes bytes
-    → When (checked allows bytes (number_at 8 bytes)) (λ number rest. (Takes bytes (number_text number) rest × (number < 2 ^ 64)) × (allows number ≡ true))
-checked_number-takes allows bytes is = checked-when allows bytes (number_at 8 bytes) (λ number rest. Takes bytes (number_text number) rest × (number < 2 ^ 64)) (number-takes bytes is)
+    → When (checked allows bytes (number_at 8 bytes)) (λ number rest. (FollowsReading bytes (number_text number) rest × (number < 2 ^ 64)) × (allows number ≡ true))
+checked_number-takes allows bytes is = checked-when allows bytes (number_at 8 bytes) (λ number rest. FollowsReading bytes (number_text number) rest × (number < 2 ^ 64)) (number-takes bytes is)
 
-ssid-takes : (bytes : List ℕ) → IsBytes bytes → When (ssid_at bytes) (λ ssid rest. Takes bytes (number_text ssid) rest × (1 ≤ ssid) × (ssid < 2 ^ 64))
+ssid-takes : (bytes : List ℕ) → IsBytes bytes → When (ssid_at bytes) (λ ssid rest. FollowsReading bytes (number_text ssid) rest × (1 ≤ ssid) × (ssid < 2 ^ 64))
 unfolding ssid_at
 ssid-takes bytes is =
     when-weaker (checked (λ ssid. nat_lt 0 ssid) bytes (number_at 8 bytes)) _ _ (checked_number-takes (λ ssid. nat_lt 0 ssid) bytes is)
     (λ ssid rest took. (took.0.0, omega (arith, ltb-true 0 ssid took.1), took.0.1))
 
-base-takes : (ssid : ℕ) (bytes : List ℕ) → IsBytes bytes → When (base_at ssid bytes) (λ base rest. Takes bytes (number_text base) rest × (base < ssid))
+base-takes : (ssid : ℕ) (bytes : List ℕ) → IsBytes bytes → When (base_at ssid bytes) (λ base rest. FollowsReading bytes (number_text base) rest × (base < ssid))
 unfolding base_at
 base-takes ssid bytes is =
     when-weaker (checked (λ base. nat_lt base ssid) bytes (number_at 8 bytes)) _ _ (checked_number-takes (λ base. nat_lt base ssid) bytes is)
@@ -199,13 +199,13 @@ is_level-is (suc base) level is =
     let above : 0 < level = ltb-true 0 level parts.0 in
     (leb-true level 10 parts.1, (λ e. absurd (omega (arith, e)), λ e. absurd (omega (arith, e, above))))
 
-level-takes : (base : ℕ) (bytes : List ℕ) → IsBytes bytes → When (level_at base bytes) (λ level rest. Takes bytes (level ∷ []) rest × (level ≤ 10) × ((base ≡ 0) ↔ (level ≡ 0)))
+level-takes : (base : ℕ) (bytes : List ℕ) → IsBytes bytes → When (level_at base bytes) (λ level rest. FollowsReading bytes (level ∷ []) rest × (level ≤ 10) × ((base ≡ 0) ↔ (level ≡ 0)))
 unfolding level_at
 level-takes base bytes is =
-    when-weaker (checked (is_level base) bytes (byte_at bytes)) _ _ (checked-when (is_level base) bytes (byte_at bytes) (λ level rest. Takes bytes (level ∷ []) rest) (byte-takes bytes is))
+    when-weaker (checked (is_level base) bytes (byte_at bytes)) _ _ (checked-when (is_level base) bytes (byte_at bytes) (λ level rest. FollowsReading bytes (level ∷ []) rest) (byte-takes bytes is))
     (λ level rest took. let allowed = is_level-is base level took.1 in (took.0, allowed.0, allowed.1))
 
-moment-takes : (least : ℕ) (bytes : List ℕ) → IsBytes bytes → When (moment_at least bytes) (λ moment rest. Takes bytes (number_text moment) rest × (least ≤ moment) × (moment ≤ max_moment))
+moment-takes : (least : ℕ) (bytes : List ℕ) → IsBytes bytes → When (moment_at least bytes) (λ moment rest. FollowsReading bytes (number_text moment) rest × (least ≤ moment) × (moment ≤ max_moment))
 unfolding moment_at
 moment-takes least bytes is =
     let allows : ℕ → Bool = λ moment. nat_le least moment && nat_le moment max_moment in
@@ -227,7 +227,7 @@ abbrev numbers_text : HeadNumbers → List ℕ
 numbers_text numbers = (0x48 ∷ []) ++ number_text numbers.ssid.0 ++ number_text numbers.base.0 ++ (numbers.rank ∷ [])
     ++ number_text numbers.saved.0 ++ number_text numbers.browse.0 ++ number_text numbers.retain.0
 
-numbers-takes : (bytes : List ℕ) → IsBytes bytes → When (numbers_at bytes) (λ numbers rest. Takes bytes (numbers_text numbers) rest × AreNumbers numbers)
+numbers-takes : (bytes : List ℕ) → IsBytes bytes → When (numbers_at bytes) (λ numbers rest. FollowsReading bytes (numbers_text numbers) rest × AreNumbers numbers)
 unfolding numbers_at
 numbers-takes bytes is =
     then-when (mark_at 0x48 bytes) _ _ _ (mark-takes 0x48 bytes is)
@@ -255,7 +255,7 @@ pub record AreNames (names : HeadNames) : Type 0 where
   pub group : (length names.group ≤ 64) × IsName names.group
   pub pool : IsNameTo 64 names.pool
 
-names-takes : (bytes : List ℕ) → IsBytes bytes → When (names_at bytes) (λ names rest. Takes bytes (names_text names) rest × AreNames names)
+names-takes : (bytes : List ℕ) → IsBytes bytes → When (names_at bytes) (λ names rest. FollowsReading bytes (names_text names) rest × AreNames names)
 unfolding names_at
 names-takes bytes is =
     then-when (text_at 1 64 bytes) _ _ _ (text-takes 1 64 bytes is)
@@ -271,14 +271,14 @@ names-takes bytes is =
 one_behind_other : (a b c d e : List ℕ) → a ++ (((b ++ c) ++ d) ++ e) ≡ (((a ++ b) ++ c) ++ d) ++ e
 one_behind_other a b c d e = simp append_assoc
 
-pub head-takes : (bytes : List ℕ) → IsBytes bytes → When (head_at bytes) (λ head rest. Takes bytes (head_text head) rest × IsHead head)
+pub head-takes : (bytes : List ℕ) → IsBytes bytes → When (head_at bytes) (λ head rest. FollowsReading bytes (head_text head) rest × IsHead head)
 unfolding head_at
 head-takes bytes is =
     then-when (numbers_at bytes) _ _ _ (numbers-takes bytes is)
     (λ numbers after-numbers a. then-when (names_at after-numbers) _ _ _ (names-takes after-numbers a.0.rest_fits)
     (λ names rest b.
     let both = Takes-then _ _ _ _ _ a.0 b.0 in (
-      subst (λ (text : List ℕ). Takes bytes text rest) (one_behind_other (numbers_text numbers) (short_text names.client) (short_text names.set) (short_text names.group) (short_text names.pool)) both,
+      subst (λ (text : List ℕ). FollowsReading bytes text rest) (one_behind_other (numbers_text numbers) (short_text names.client) (short_text names.set) (short_text names.group) (short_text names.pool)) both,
       record {
         ssid = a.1.ssid;
         base = a.1.base;
@@ -312,18 +312,18 @@ picked_mark byte false true three a b c = eqb-true byte 0x44 b
 picked_mark byte false false true a b c = eqb-true byte 0x47 c
 picked_mark byte false false false a b c = tt
 
-among-takes : (room : Bool) (kind : EntryKind) (bytes rest : List ℕ) (count : ℕ) → nat_lt count max_entries ≡ room → Takes bytes (entry_mark kind ∷ []) rest
-    → When (cond room (Ok (kind, rest)) (Err stops.Full)) (λ kind rest. Takes bytes (entry_mark kind ∷ []) rest × (count < max_entries))
+among-takes : (room : Bool) (kind : EntryKind) (bytes rest : List ℕ) (count : ℕ) → nat_lt count max_entries ≡ room → FollowsReading bytes (entry_mark kind ∷ []) rest
+    → When (cond room (Ok (kind, rest)) (Err stops.Full)) (λ kind rest. FollowsReading bytes (entry_mark kind ∷ []) rest × (count < max_entries))
 among-takes true kind bytes rest count room took = (took, ltb-true count max_entries room)
 among-takes false kind bytes rest count room took = tt
 
-kind_among-takes : (count behind byte : ℕ) (kind : Option EntryKind) (bytes rest : List ℕ) → HasMark byte kind → Takes bytes (byte ∷ []) rest
-    → When (kind_among count behind kind rest) (λ kind rest. Takes bytes (entry_mark kind ∷ []) rest × (count < max_entries))
+kind_among-takes : (count behind byte : ℕ) (kind : Option EntryKind) (bytes rest : List ℕ) → HasMark byte kind → FollowsReading bytes (byte ∷ []) rest
+    → When (kind_among count behind kind rest) (λ kind rest. FollowsReading bytes (entry_mark kind ∷ []) rest × (count < max_entries))
 kind_among-takes count behind byte None bytes rest is took = tt
 kind_among-takes count behind byte (Some kind) bytes rest is took =
-    among-takes (nat_lt count max_entries) kind bytes rest count refl (subst (λ (m : ℕ). Takes bytes (m ∷ []) rest) is took)
+    among-takes (nat_lt count max_entries) kind bytes rest count refl (subst (λ (m : ℕ). FollowsReading bytes (m ∷ []) rest) is took)
 
-kind-takes : (count : ℕ) (bytes : List ℕ) → IsBytes bytes → When (kind_at count bytes) (λ kind rest. Takes bytes (entry_mark kind ∷ []) rest × (count < max_entries))
+kind-takes : (count : ℕ) (bytes : List ℕ) → IsBytes bytes → When (kind_at count bytes) (λ kind rest. FollowsReading bytes (entry_mark kind ∷ []) rest × (count < max_entries))
 unfolding kind_at
 kind-takes count bytes is =
     then-when (byte_at bytes) _ _ _ (byte-takes bytes is)
@@ -349,21 +349,21 @@ unfolding is_below
 is_below-is one other is = less-is (slice_cmp nat_cmp one other) is
 
 path-takes : (last bytes : List ℕ) → IsBytes bytes
-    → When (path_at last bytes) (λ path rest. Takes bytes (long_text path) rest × HasLength 1024 path × IsPathText path × IsBelow last path)
+    → When (path_at last bytes) (λ path rest. FollowsReading bytes (long_text path) rest × HasLength 1024 path × IsPathText path × IsBelow last path)
 unfolding path_at
 path-takes last bytes is =
     let allows : ℕ → Bool = λ n. nat_lt 0 n && nat_le n 1024 in
-    then-when (checked allows bytes (number_at 2 bytes)) _ (λ size start. Takes bytes (short_number_text size) start × (allows size ≡ true)) _
-    (checked-when allows bytes (number_at 2 bytes) (λ size start. Takes bytes (short_number_text size) start) (short_number-takes bytes is))
+    then-when (checked allows bytes (number_at 2 bytes)) _ (λ size start. FollowsReading bytes (short_number_text size) start × (allows size ≡ true)) _
+    (checked-when allows bytes (number_at 2 bytes) (λ size start. FollowsReading bytes (short_number_text size) start) (short_number-takes bytes is))
     (λ size start first.
     let bounds = both-true (nat_lt 0 size) (nat_le size 1024) first.1 in
     let fits : List ℕ → Bool = λ path. is_path path && is_below last path in
-    when-weaker (checked fits start (bytes_at size start)) (λ path rest. (Takes start path rest × (length path ≡ size)) × (fits path ≡ true)) _
-    (checked-when fits start (bytes_at size start) (λ path rest. Takes start path rest × (length path ≡ size)) (bytes-takes size start first.0.rest_fits))
+    when-weaker (checked fits start (bytes_at size start)) (λ path rest. (FollowsReading start path rest × (length path ≡ size)) × (fits path ≡ true)) _
+    (checked-when fits start (bytes_at size start) (λ path rest. FollowsReading start path rest × (length path ≡ size)) (bytes-takes size start first.0.rest_fits))
     (λ path rest second.
     let count = second.0.1 in
     let tests = both-true (is_path path) (is_below last path) second.1 in (
-      subst (λ (n : ℕ). Takes bytes (short_number_text n ++ path) rest) (sym count) (Takes-then bytes (short_number_text size) start path rest first.0 second.0.0),
+      subst (λ (n : ℕ). FollowsReading bytes (short_number_text n ++ path) rest) (sym count) (Takes-then bytes (short_number_text size) start path rest first.0 second.0.0),
       (omega (arith, count, ltb-true 0 size bounds.0), omega (arith, count, leb-true size 1024 bounds.1)),
       is_path-is path tests.0,
       is_below-is last path tests.1,
@@ -371,14 +371,14 @@ path-takes last bytes is =
 
 -- an entry that begins these bytes, and is allowed
 pub record FrontIs (count : ℕ) (last bytes : List ℕ) (front : Front) (rest : List ℕ) : Type 0 where
-  pub took : Takes bytes (entry_front front.kind front.path front.mtime front.size) rest
+  pub took : FollowsReading bytes (entry_front front.kind front.path front.mtime front.size) rest
   pub room : count < max_entries
   pub length : HasLength 1024 front.path
   pub path : IsPathText front.path
   pub below : IsBelow last front.path
   pub fields : FitsKind front.kind front.mtime front.size
 
-fields-take : (count : ℕ) (last bytes : List ℕ) (kind : EntryKind) (path start : List ℕ) → Takes bytes ((entry_mark kind ∷ []) ++ long_text path) start → count < max_entries
+fields-take : (count : ℕ) (last bytes : List ℕ) (kind : EntryKind) (path start : List ℕ) → FollowsReading bytes ((entry_mark kind ∷ []) ++ long_text path) start → count < max_entries
     → HasLength 1024 path → IsPathText path → IsBelow last path
     → When (mtime_at kind start >>= λ mtime. size_at kind mtime.1 >>= λ size. Ok (record { kind = kind; path = path; mtime = mtime.0; size = size.0 }, size.1)) (FrontIs count last bytes)
 fields-take count last bytes kinds.File path start took room fits is below =
@@ -399,9 +399,9 @@ front-takes count last bytes is =
     (λ kind after-kind a. then-when (path_at last after-kind) _ _ _ (path-takes last after-kind a.0.rest_fits)
     (λ path start b. fields-take count last bytes kind path start (Takes-then _ _ _ _ _ a.0 b.0) a.1 b.1 b.2 b.3))
 
-pub end-takes : (count : ℕ) (bytes : List ℕ) → IsBytes bytes → When (end_at count bytes) (λ number rest. Takes bytes (end_text count) rest)
+pub end-takes : (count : ℕ) (bytes : List ℕ) → IsBytes bytes → When (end_at count bytes) (λ number rest. FollowsReading bytes (end_text count) rest)
 unfolding end_at
 end-takes count bytes is =
     then-when (mark_at 0x45 bytes) _ _ _ (mark-takes 0x45 bytes is)
     (λ mark start a. when-weaker (checked (λ n. eqb n count) start (number_at 8 start)) _ _ (checked_number-takes (λ n. eqb n count) start a.rest_fits)
-    (λ number rest b. subst (λ (n : ℕ). Takes bytes ((0x45 ∷ []) ++ number_text n) rest) (eqb-true number count b.1) (Takes-then _ _ _ _ _ a b.0.0)))
+    (λ number rest b. subst (λ (n : ℕ). FollowsReading bytes ((0x45 ∷ []) ++ number_text n) rest) (eqb-true number count b.1) (Takes-then _ _ _ _ _ a b.0.0)))

@@ -13,7 +13,7 @@ use Rattle.save_stream.specs.Spelling.{max_entries, IsHead, Saved, IsSaved, HasF
 use Rattle.save_stream.specs.Reading.{Part, Front, begins_end, entry_from, last_path, head_at, front_at, end_at, kind_at, mark_at}
 use Rattle.save_stream.specs.Standing.{Spells}
 use Rattle.save_stream.proofs.Again.{FitsKind, head-again, front-again, end-again}
-use Rattle.save_stream.proofs.Sound.{IsBytes, Takes, When, FrontIs, head-takes, front-takes, end-takes}
+use Rattle.save_stream.proofs.Sound.{IsBytes, FollowsReading, When, FrontIs, head-takes, front-takes, end-takes}
 use Rattle.save_stream.proofs.Whole.{length-index_from}
 
 -- ---- nothing stands behind what a last byte completes
@@ -70,15 +70,15 @@ front-waits entries (first ∷ pending) byte waits ends = subst (λ (test : Bool
 pub end-whole : (count : ℕ) (pending : List ℕ) (byte number : ℕ) (rest : List ℕ) → count ≤ max_entries → IsBytes (pending ++ byte ∷ []) → end_at count pending ≡ Err stops.More
     → end_at count (pending ++ byte ∷ []) ≡ Ok (number, rest) → pending ++ byte ∷ [] ≡ end_text count
 end-whole count pending byte number rest room bytes waits is =
-    let took : Takes (pending ++ byte ∷ []) (end_text count) rest =
-    subst (λ (p : Part ℕ). When p (λ n r. Takes (pending ++ byte ∷ []) (end_text count) r)) is (end-takes count (pending ++ byte ∷ []) bytes) in
+    let took : FollowsReading (pending ++ byte ∷ []) (end_text count) rest =
+    subst (λ (p : Part ℕ). When p (λ n r. FollowsReading (pending ++ byte ∷ []) (end_text count) r)) is (end-takes count (pending ++ byte ∷ []) bytes) in
     let none : rest ≡ [] = no-rest (end_at count) (end_text count) pending rest byte count (λ r. end-again count r (omega (arith, room))) took.parts waits in
     took.parts ∙ ap (λ (r : List ℕ). end_text count ++ r) none ∙ append-nil (end_text count)
 
 pub head-whole : (pending : List ℕ) (byte : ℕ) (head : SetHead) (rest : List ℕ) → IsBytes (pending ++ byte ∷ []) → head_at pending ≡ Err stops.More
     → head_at (pending ++ byte ∷ []) ≡ Ok (head, rest) → (pending ++ byte ∷ [] ≡ head_text head) × IsHead head
 head-whole pending byte head rest bytes waits is =
-    let took = subst (λ (p : Part SetHead). When p (λ h r. Takes (pending ++ byte ∷ []) (head_text h) r × IsHead h)) is (head-takes (pending ++ byte ∷ []) bytes) in
+    let took = subst (λ (p : Part SetHead). When p (λ h r. FollowsReading (pending ++ byte ∷ []) (head_text h) r × IsHead h)) is (head-takes (pending ++ byte ∷ []) bytes) in
     let none : rest ≡ [] = no-rest head_at (head_text head) pending rest byte head (λ r. head-again head r took.1) took.0.parts waits in
     (took.0.parts ∙ ap (λ (r : List ℕ). head_text head ++ r) none ∙ append-nil (head_text head), took.1)
 

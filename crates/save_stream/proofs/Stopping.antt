@@ -46,8 +46,8 @@ then-leads (Err stops.Memory) tail bad Mid next Next is more = absurd is
 -- ---- one field
 
 -- so many bytes are read as a value
-abbrev Reads : {V : Type 0} → ℕ → (List ℕ → V) → (List ℕ → Part V) → Type 0
-Reads size value raw = (front rest : List ℕ) → length front ≡ size → raw (front ++ rest) ≡ Ok (value front, rest)
+abbrev ReadsField : {V : Type 0} → ℕ → (List ℕ → V) → (List ℕ → Part V) → Type 0
+ReadsField size value raw = (front rest : List ℕ) → length front ≡ size → raw (front ++ rest) ≡ Ok (value front, rest)
 
 stops-there : {V : Type 0} (test : V → Bool) (bytes : List ℕ) (part : Part V) (v : V) (rest tail bad : List ℕ) (Next : V → FieldRules) → part ≡ Ok (v, rest) → test v ≡ false
     → bytes ≡ tail → Leads (checked test bytes part) tail bad Next
@@ -61,7 +61,7 @@ fails : (test : Bool) → (test ≡ true → ⊥) → test ≡ false
 fails true other = absurd (other refl)
 fails false other = refl
 
-field-leads : {V : Type 0} (size : ℕ) (value : List ℕ → V) (test : V → Bool) (Allowed : V → Type 0) (behind : V → FieldRules) (raw : List ℕ → Part V) → Decides test Allowed → Reads size value raw
+field-leads : {V : Type 0} (size : ℕ) (value : List ℕ → V) (test : V → Bool) (Allowed : V → Type 0) (behind : V → FieldRules) (raw : List ℕ → Part V) → Decides test Allowed → ReadsField size value raw
     → (before bad rest : List ℕ) → field size value Allowed behind before bad
     → Leads (checked test (before ++ (bad ++ rest)) (raw (before ++ (bad ++ rest)))) (bad ++ rest) bad behind
 field-leads size value test Allowed behind raw decides reads before bad rest is = elim is [
@@ -78,7 +78,7 @@ field-leads size value test Allowed behind raw decides reads before bad rest is 
 ]
 
 -- a field that is never judged
-any-leads : {V : Type 0} (size : ℕ) (value : List ℕ → V) (behind : V → FieldRules) (raw : List ℕ → Part V) → Reads size value raw
+any-leads : {V : Type 0} (size : ℕ) (value : List ℕ → V) (behind : V → FieldRules) (raw : List ℕ → Part V) → ReadsField size value raw
     → (before bad rest : List ℕ) → field size value (λ _. Unit {0}) behind before bad → Leads (raw (before ++ (bad ++ rest))) (bad ++ rest) bad behind
 any-leads size value behind raw reads before bad rest is = elim is [
   | inl here ↦ absurd (here.2 tt)
@@ -87,15 +87,15 @@ any-leads size value behind raw reads before bad rest is = elim is [
       rw same (on.1.0, refl, on.1.4))
 ]
 
-reads-byte : Reads 1 (λ bytes. slice_index bytes 0) byte_at
+reads-byte : ReadsField 1 (λ bytes. slice_index bytes 0) byte_at
 reads-byte [] rest is = absurd (omega (arith, is))
 reads-byte (only ∷ []) rest is = refl
 reads-byte (one ∷ other ∷ front) rest is = absurd (omega (arith, is))
 
-reads-number : (size : ℕ) → Reads size (big_number size) (number_at size)
+reads-number : (size : ℕ) → ReadsField size (big_number size) (number_at size)
 reads-number size front rest is = sized-again size front rest (big_number size front) is (big_from-append size front rest (omega (arith, is)))
 
-reads-bytes : (size : ℕ) → Reads size (λ bytes. bytes) (bytes_at size)
+reads-bytes : (size : ℕ) → ReadsField size (λ bytes. bytes) (bytes_at size)
 reads-bytes size front rest is = ap (λ (n : ℕ). bytes_at n (front ++ rest)) (sym is) ∙ bytes-again front rest
 
 -- ---- the head

@@ -41,9 +41,9 @@ Stops stops.More read = read ≡ Err stops.More
 Stops stops.Full read = read ≡ Err stops.Full
 Stops (stops.Wrong behind) read = read ≡ Err (stops.Wrong behind)
 
-abbrev pub Gives : {X Y : Type 0} → (X → Y) → Result X Stop → Result Y Stop → Type 0
-Gives view (Ok x) read = read ≡ Ok (view x)
-Gives view (Err stop) read = Stops stop read
+abbrev pub GivesField : {X Y : Type 0} → (X → Y) → Result X Stop → Result Y Stop → Type 0
+GivesField view (Ok x) read = read ≡ Ok (view x)
+GivesField view (Err stop) read = Stops stop read
 
 -- the judgement of a field that begins these bytes
 abbrev pub Allows : {T : Type 0} → Bool → List ℕ → Result T Stop → Type 0
@@ -317,9 +317,9 @@ Faults (faults.Bad offset) read = read ≡ Err (faults.Bad offset)
 Faults (faults.TooMany limit) read = read ≡ Err (faults.TooMany limit)
 
 -- what was read is what reading gives, unless memory ran out
-abbrev pub Takes : {T : Type 0} → Result Reading StreamFault → Result T StreamFault → Reading → Type 0
-Takes read (Ok _) new = read ≡ Ok new
-Takes read (Err fault) new = Faults fault read
+abbrev pub FollowsReading : {T : Type 0} → Result Reading StreamFault → Result T StreamFault → Reading → Type 0
+FollowsReading read (Ok _) new = read ≡ Ok new
+FollowsReading read (Err fault) new = Faults fault read
 
 -- so many bytes were taken, at least one
 pub record Advances (old new : Reading) (bytes : List ℕ) (count : ℕ) : Type 0 where
@@ -328,9 +328,9 @@ pub record Advances (old new : Reading) (bytes : List ℕ) (count : ℕ) : Type 
   pub read : new.read ≡ old.read + count
   pub rest : reads old bytes ≡ reads new (drop count bytes)
 
-abbrev pub TakesFront : Reading → Reading → List ℕ → Result ℕ StreamFault → Type 0
-TakesFront old new bytes (Ok count) = Advances old new bytes count
-TakesFront old new bytes (Err fault) = Faults fault (reads old bytes)
+abbrev pub FollowsFront : Reading → Reading → List ℕ → Result ℕ StreamFault → Type 0
+FollowsFront old new bytes (Ok count) = Advances old new bytes count
+FollowsFront old new bytes (Err fault) = Faults fault (reads old bytes)
 
 -- a head that was read stays
 abbrev pub KeepsHead : Option SetHead → Option SetHead → Type 0

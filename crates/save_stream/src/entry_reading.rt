@@ -1,10 +1,10 @@
 //! Reads an entry up to the bytes of its file, and the end.
 
 ghost use Rattle.std.specs.Prelude.{◌≡◌};
-ghost use Rattle.save_stream.specs.Reading.{Gives, kind_at, kind_of, is_below, path_at, mtime_at, size_at, front_at, end_at};
+ghost use Rattle.save_stream.specs.Reading.{GivesField, kind_at, kind_of, is_below, path_at, mtime_at, size_at, front_at, end_at};
 ghost use Rattle.save_stream.specs.Texts.{front_from};
 
-use crate::field::{allow, byte_of, bytes_of, mark_of, u16_of, u64_of};
+use crate::field::{allow, byte_of, bytes_of, expect_mark, u16_of, u64_of};
 use crate::stop::Stop;
 use crate::{EntryKind, MAX_ENTRIES, MAX_SIZE};
 use room_base::{MAX_PATH, path_text};
@@ -30,7 +30,7 @@ pub(crate) fn front_of<'a>(
     last: &[u8],
     bytes: &'a [u8],
 ) -> Result<(EntryFront<'a>, &'a [u8]), Stop>
-    ensures { Gives (λ x. (front_from x.0, x.1.now)) result (front_at count last.now bytes.now) }
+    ensures { GivesField (λ x. (front_from x.0, x.1.now)) result (front_at count last.now bytes.now) }
 {
     let (kind, rest) = next_kind_of(count, bytes)?;
     let (path, rest) = path_of(last, rest)?;
@@ -47,7 +47,7 @@ pub(crate) fn front_of<'a>(
 
 #[tactic(auto, unfolding(crate::specs::Reading::kind_at))]
 fn next_kind_of(count: usize, bytes: &[u8]) -> Result<(EntryKind, &[u8]), Stop>
-    ensures { Gives (λ x. (x.0, x.1.now)) result (kind_at count bytes.now) }
+    ensures { GivesField (λ x. (x.0, x.1.now)) result (kind_at count bytes.now) }
 {
     let (byte, rest) = byte_of(bytes)?;
     match kind_of(byte) {
@@ -70,7 +70,7 @@ fn kind_of(byte: u8) -> Option<EntryKind>
 
 #[tactic(auto, using(crate::proofs::Names::path_is, crate::proofs::Names::no_path), unfolding(crate::specs::Reading::path_at))]
 fn path_of<'a>(last: &[u8], bytes: &'a [u8]) -> Result<(&'a str, &'a [u8]), Stop>
-    ensures { Gives (λ x. (x.0.now, x.1.now)) result (path_at last.now bytes.now) }
+    ensures { GivesField (λ x. (x.0.now, x.1.now)) result (path_at last.now bytes.now) }
 {
     let (size, start) = u16_of(bytes)?;
     let size = usize::from(size);
@@ -90,7 +90,7 @@ fn is_below(one: &[u8], other: &[u8]) -> bool
 }
 
 fn mtime_of(kind: EntryKind, bytes: &[u8]) -> Result<(u64, &[u8]), Stop>
-    ensures { Gives (λ x. (x.0, x.1.now)) result (mtime_at kind bytes.now) }
+    ensures { GivesField (λ x. (x.0, x.1.now)) result (mtime_at kind bytes.now) }
 {
     match kind {
         EntryKind::File | EntryKind::Folder => u64_of(bytes),
@@ -99,7 +99,7 @@ fn mtime_of(kind: EntryKind, bytes: &[u8]) -> Result<(u64, &[u8]), Stop>
 }
 
 fn size_of(kind: EntryKind, bytes: &[u8]) -> Result<(u64, &[u8]), Stop>
-    ensures { Gives (λ x. (x.0, x.1.now)) result (size_at kind bytes.now) }
+    ensures { GivesField (λ x. (x.0, x.1.now)) result (size_at kind bytes.now) }
 {
     match kind {
         EntryKind::File => {
@@ -114,9 +114,9 @@ fn size_of(kind: EntryKind, bytes: &[u8]) -> Result<(u64, &[u8]), Stop>
 /// The end that begins these bytes, of a stream of `count` entries.
 #[tactic(auto, unfolding(crate::specs::Reading::end_at))]
 pub(crate) fn end_of(count: usize, bytes: &[u8]) -> Result<(u64, &[u8]), Stop>
-    ensures { Gives (λ x. (x.0, x.1.now)) result (end_at count bytes.now) }
+    ensures { GivesField (λ x. (x.0, x.1.now)) result (end_at count bytes.now) }
 {
-    let (_, rest) = mark_of(END_MARK, bytes)?;
+    let (_, rest) = expect_mark(END_MARK, bytes)?;
     let (number, after) = u64_of(rest)?;
     allow(number == count as u64, rest)?;
     Ok((number, after))

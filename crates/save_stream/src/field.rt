@@ -1,6 +1,6 @@
 //! Reads single fields.
 
-ghost use Rattle.save_stream.specs.Reading.{Gives, Allows, byte_at, number_at, bytes_at, text_at, mark_at};
+ghost use Rattle.save_stream.specs.Reading.{GivesField, Allows, byte_at, number_at, bytes_at, text_at, mark_at};
 
 use crate::stop::Stop;
 use byteorder::{BigEndian, ByteOrder};
@@ -8,7 +8,7 @@ use room_base::name_text;
 
 /// A byte, and the bytes behind it.
 pub(crate) fn byte_of(bytes: &[u8]) -> Result<(u8, &[u8]), Stop>
-    ensures { Gives (λ x. (x.0, x.1.now)) result (byte_at bytes.now) }
+    ensures { GivesField (λ x. (x.0, x.1.now)) result (byte_at bytes.now) }
 {
     match bytes {
         [] => Err(Stop::More),
@@ -19,7 +19,7 @@ pub(crate) fn byte_of(bytes: &[u8]) -> Result<(u8, &[u8]), Stop>
 /// A number of two bytes.
 #[tactic(auto, unfolding(crate::specs::Reading::number_at))]
 pub(crate) fn u16_of(bytes: &[u8]) -> Result<(u16, &[u8]), Stop>
-    ensures { Gives (λ x. (x.0, x.1.now)) result (number_at 2 bytes.now) }
+    ensures { GivesField (λ x. (x.0, x.1.now)) result (number_at 2 bytes.now) }
 {
     if bytes.len() < 2 {
         return Err(Stop::More);
@@ -30,7 +30,7 @@ pub(crate) fn u16_of(bytes: &[u8]) -> Result<(u16, &[u8]), Stop>
 /// A number of eight bytes.
 #[tactic(auto, unfolding(crate::specs::Reading::number_at))]
 pub(crate) fn u64_of(bytes: &[u8]) -> Result<(u64, &[u8]), Stop>
-    ensures { Gives (λ x. (x.0, x.1.now)) result (number_at 8 bytes.now) }
+    ensures { GivesField (λ x. (x.0, x.1.now)) result (number_at 8 bytes.now) }
 {
     if bytes.len() < 8 {
         return Err(Stop::More);
@@ -41,7 +41,7 @@ pub(crate) fn u64_of(bytes: &[u8]) -> Result<(u64, &[u8]), Stop>
 /// So many bytes.
 #[tactic(auto, unfolding(crate::specs::Reading::bytes_at))]
 pub(crate) fn bytes_of(size: usize, bytes: &[u8]) -> Result<(&[u8], &[u8]), Stop>
-    ensures { Gives (λ x. (x.0.now, x.1.now)) result (bytes_at size bytes.now) }
+    ensures { GivesField (λ x. (x.0.now, x.1.now)) result (bytes_at size bytes.now) }
 {
     if bytes.len() < size {
         return Err(Stop::More);
@@ -61,8 +61,8 @@ pub(crate) fn allow(allowed: bool, bytes: &[u8]) -> Result<(), Stop>
 
 /// A byte that has to be this one.
 #[tactic(auto, unfolding(crate::specs::Reading::mark_at))]
-pub(crate) fn mark_of(mark: u8, bytes: &[u8]) -> Result<(u8, &[u8]), Stop>
-    ensures { Gives (λ x. (x.0, x.1.now)) result (mark_at mark bytes.now) }
+pub(crate) fn expect_mark(mark: u8, bytes: &[u8]) -> Result<(u8, &[u8]), Stop>
+    ensures { GivesField (λ x. (x.0, x.1.now)) result (mark_at mark bytes.now) }
 {
     let (byte, rest) = byte_of(bytes)?;
     allow(byte == mark, bytes)?;
@@ -72,7 +72,7 @@ pub(crate) fn mark_of(mark: u8, bytes: &[u8]) -> Result<(u8, &[u8]), Stop>
 /// A name of `least` to `most` bytes, behind its length.
 #[tactic(auto, using(crate::proofs::Names::name_is, crate::proofs::Names::no_name), unfolding(crate::specs::Reading::text_at))]
 pub(crate) fn text_of(least: u8, most: u8, bytes: &[u8]) -> Result<(&str, &[u8]), Stop>
-    ensures { Gives (λ x. (x.0.now, x.1.now)) result (text_at least most bytes.now) }
+    ensures { GivesField (λ x. (x.0.now, x.1.now)) result (text_at least most bytes.now) }
 {
     let (size, start) = byte_of(bytes)?;
     allow(least <= size && size <= most, bytes)?;

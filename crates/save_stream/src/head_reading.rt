@@ -1,11 +1,11 @@
 //! Reads the head of a stream.
 
 ghost use Rattle.std.specs.Prelude.{◌≡◌, ◌≤◌, IfOk, IsTrue};
-ghost use Rattle.save_stream.specs.Reading.{Gives, read_alone, HeadNames, head_from, ssid_at, base_at, level_at, is_level, moment_at, numbers_at, names_at, head_at};
+ghost use Rattle.save_stream.specs.Reading.{GivesField, read_alone, HeadNames, head_from, ssid_at, base_at, level_at, is_level, moment_at, numbers_at, names_at, head_at};
 ghost use Rattle.save_stream.specs.Texts.{names_of};
 
 use crate::encode::HEAD_MARK;
-use crate::field::{allow, byte_of, mark_of, text_of, u64_of};
+use crate::field::{allow, byte_of, expect_mark, text_of, u64_of};
 use crate::level::MAX_RANK;
 use crate::stop::Stop;
 use crate::{Level, SetHead};
@@ -35,7 +35,7 @@ pub(crate) struct HeadTexts<'a> {
 /// The head that begins these bytes.
 #[tactic(auto, unfolding(crate::specs::Reading::head_at))]
 pub(crate) fn head_of(alloc: Global, bytes: &[u8]) -> Result<SetHead, Stop>
-    ensures { Gives (λ head. head) result (read_alone (head_at bytes.now)) }
+    ensures { GivesField (λ head. head) result (read_alone (head_at bytes.now)) }
 {
     let (numbers, rest) = numbers_of(bytes)?;
     let (texts, _) = texts_of(rest)?;
@@ -62,10 +62,10 @@ fn made_head(alloc: Global, numbers: &HeadNumbers, texts: &HeadTexts) -> Result<
 
 #[tactic(auto, unfolding(crate::specs::Reading::numbers_at))]
 fn numbers_of(bytes: &[u8]) -> Result<(HeadNumbers, &[u8]), Stop>
-    ensures read { Gives (λ x. (x.0, x.1.now)) result (numbers_at bytes.now) }
+    ensures read { GivesField (λ x. (x.0, x.1.now)) result (numbers_at bytes.now) }
     ensures level { IfOk result (λ x. x.0.rank ≤ 10) }
 {
-    let (_, rest) = mark_of(HEAD_MARK, bytes)?;
+    let (_, rest) = expect_mark(HEAD_MARK, bytes)?;
     let (ssid, rest) = ssid_of(rest)?;
     let (base, rest) = base_of(ssid, rest)?;
     let (rank, rest) = level_of(base, rest)?;
@@ -85,7 +85,7 @@ fn numbers_of(bytes: &[u8]) -> Result<(HeadNumbers, &[u8]), Stop>
 
 #[tactic(auto, unfolding(crate::specs::Reading::ssid_at))]
 fn ssid_of(bytes: &[u8]) -> Result<(u64, &[u8]), Stop>
-    ensures { Gives (λ x. (x.0, x.1.now)) result (ssid_at bytes.now) }
+    ensures { GivesField (λ x. (x.0, x.1.now)) result (ssid_at bytes.now) }
 {
     let (ssid, rest) = u64_of(bytes)?;
     allow(0 < ssid, bytes)?;
@@ -94,7 +94,7 @@ fn ssid_of(bytes: &[u8]) -> Result<(u64, &[u8]), Stop>
 
 #[tactic(auto, unfolding(crate::specs::Reading::base_at))]
 fn base_of(ssid: u64, bytes: &[u8]) -> Result<(u64, &[u8]), Stop>
-    ensures { Gives (λ x. (x.0, x.1.now)) result (base_at ssid bytes.now) }
+    ensures { GivesField (λ x. (x.0, x.1.now)) result (base_at ssid bytes.now) }
 {
     let (base, rest) = u64_of(bytes)?;
     allow(base < ssid, bytes)?;
@@ -103,7 +103,7 @@ fn base_of(ssid: u64, bytes: &[u8]) -> Result<(u64, &[u8]), Stop>
 
 #[tactic(auto, unfolding(crate::specs::Reading::level_at))]
 fn level_of(base: u64, bytes: &[u8]) -> Result<(u8, &[u8]), Stop>
-    ensures read { Gives (λ x. (x.0, x.1.now)) result (level_at base bytes.now) }
+    ensures read { GivesField (λ x. (x.0, x.1.now)) result (level_at base bytes.now) }
     ensures level { IfOk result (λ x. x.0 ≤ 10) }
 {
     let (rank, rest) = byte_of(bytes)?;
@@ -125,7 +125,7 @@ fn is_level(base: u64, rank: u8) -> bool
 
 #[tactic(auto, unfolding(crate::specs::Reading::moment_at))]
 fn moment_of(least: u64, bytes: &[u8]) -> Result<(u64, &[u8]), Stop>
-    ensures { Gives (λ x. (x.0, x.1.now)) result (moment_at least bytes.now) }
+    ensures { GivesField (λ x. (x.0, x.1.now)) result (moment_at least bytes.now) }
 {
     let (moment, rest) = u64_of(bytes)?;
     allow(least <= moment && moment <= MAX_MOMENT.0, bytes)?;
@@ -134,7 +134,7 @@ fn moment_of(least: u64, bytes: &[u8]) -> Result<(u64, &[u8]), Stop>
 
 #[tactic(auto, unfolding(crate::specs::Reading::names_at))]
 fn texts_of(bytes: &[u8]) -> Result<(HeadTexts<'_>, &[u8]), Stop>
-    ensures { Gives (λ x. (names_of x.0, x.1.now)) result (names_at bytes.now) }
+    ensures { GivesField (λ x. (names_of x.0, x.1.now)) result (names_at bytes.now) }
 {
     let (client, rest) = text_of(1, 64, bytes)?;
     let (set, rest) = text_of(1, 255, rest)?;

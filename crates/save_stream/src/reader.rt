@@ -2,7 +2,7 @@
 
 ghost use Rattle.std.specs.Prelude.{◌≡◌, ◌+◌, ◌≤◌, ◌^◌, length, IfOk, OnErr, option_copied};
 ghost use Rattle.save_stream.specs.Spelling.{IsHead, head_text};
-ghost use Rattle.save_stream.specs.Reading.{Takes, start, behind_head, reads};
+ghost use Rattle.save_stream.specs.Reading.{FollowsReading, start, behind_head, reads};
 ghost use Rattle.save_stream.specs.View.{reading_of};
 
 use crate::encode::HEAD_SIZE;
@@ -66,7 +66,7 @@ impl StreamReader {
     /// Reads the next bytes of the stream. An `Err` leaves the reader as it was.
     pub fn take(&mut self, piece: &[u8]) -> Result<(), StreamFault>
         requires { self.old.read + length piece.now ≤ 2 ^ 36 }
-        ensures read { Takes (reads self.old piece.now) result self.new }
+        ensures read { FollowsReading (reads self.old piece.now) result self.new }
         ensures err { OnErr result (self.new ≡ self.old) }
     {
         let mark = self.state.mark(self.alloc)?;

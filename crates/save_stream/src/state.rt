@@ -1,7 +1,7 @@
 //! What a reader knows of its stream, and how it takes bytes.
 
 ghost use Rattle.std.specs.Prelude.{◌≡◌, ◌+◌, ◌<◌, ◌≤◌, ◌^◌, length, IfOk, None};
-ghost use Rattle.save_stream.specs.Reading.{Reading, Takes, TakesFront, Keeps, settle, settled, settle_rest, with_head, with_entry, with_end, entry_from, last_path, reads, read_alone, head_at, front_at, end_at, begins_end, Stopped};
+ghost use Rattle.save_stream.specs.Reading.{Reading, FollowsReading, FollowsFront, Keeps, settle, settled, settle_rest, with_head, with_entry, with_end, entry_from, last_path, reads, read_alone, head_at, front_at, end_at, begins_end, Stopped};
 ghost use Rattle.save_stream.specs.Texts.{front_from};
 ghost use Rattle.save_stream.specs.View.{reading_of, IsMark};
 
@@ -69,7 +69,7 @@ impl State {
     /// Takes a piece. After an `Err` a part of it was taken.
     pub(crate) fn take(&mut self, alloc: Global, piece: &[u8]) -> Result<(), StreamFault>
         requires { self.old.read + length piece.now ≤ 2 ^ 36 }
-        ensures read { Takes (reads (reading_of self.old) piece.now) result (reading_of self.new) }
+        ensures read { FollowsReading (reads (reading_of self.old) piece.now) result (reading_of self.new) }
         ensures kept { Keeps (reading_of self.old) (reading_of self.new) }
     {
         let mut rest = piece;
@@ -84,7 +84,7 @@ impl State {
     fn take_front(&mut self, alloc: Global, bytes: &[u8]) -> Result<usize, StreamFault>
         requires some { 0 < length bytes.now }
         requires room { self.old.read + length bytes.now ≤ 2 ^ 36 }
-        ensures read { TakesFront (reading_of self.old) (reading_of self.new) bytes.now result }
+        ensures read { FollowsFront (reading_of self.old) (reading_of self.new) bytes.now result }
         ensures kept { Keeps (reading_of self.old) (reading_of self.new) }
     {
         if self.ended {
@@ -105,7 +105,7 @@ impl State {
     // Reads the pending bytes as far as they go.
     #[tactic(auto, unfolding(crate::specs::Reading::settle))]
     fn settle(&mut self, alloc: Global) -> Result<(), StreamFault>
-        ensures read { Takes (settle (reading_of self.old)) result (reading_of self.new) }
+        ensures read { FollowsReading (settle (reading_of self.old)) result (reading_of self.new) }
         ensures kept { Keeps (reading_of self.old) (reading_of self.new) }
         ensures count { self.new.read ≡ self.old.read }
     {
@@ -130,7 +130,7 @@ impl State {
     fn settle_head(&mut self, alloc: Global) -> Result<(), StreamFault>
         requires { self.old.head ≡ None }
         ensures read { let old = reading_of self.old in
-            Takes (settled (with_head old) old (read_alone (head_at old.pending))) result (reading_of self.new) }
+            FollowsReading (settled (with_head old) old (read_alone (head_at old.pending))) result (reading_of self.new) }
         ensures kept { Keeps (reading_of self.old) (reading_of self.new) }
         ensures count { self.new.read ≡ self.old.read }
     {
@@ -146,7 +146,7 @@ impl State {
 
     fn settle_end(&mut self) -> Result<(), StreamFault>
         ensures read { let old = reading_of self.old in
-            Takes (settled (with_end old) old (read_alone (end_at (length old.entries) old.pending))) result (reading_of self.new) }
+            FollowsReading (settled (with_end old) old (read_alone (end_at (length old.entries) old.pending))) result (reading_of self.new) }
         ensures kept { Keeps (reading_of self.old) (reading_of self.new) }
         ensures count { self.new.read ≡ self.old.read }
     {
@@ -162,7 +162,7 @@ impl State {
 
     fn settle_entry(&mut self, alloc: Global) -> Result<(), StreamFault>
         ensures read { let old = reading_of self.old in
-            Takes (settled (with_entry old) old (read_alone (front_at (length old.entries) (last_path old.entries) old.pending))) result (reading_of self.new) }
+            FollowsReading (settled (with_entry old) old (read_alone (front_at (length old.entries) (last_path old.entries) old.pending))) result (reading_of self.new) }
         ensures kept { Keeps (reading_of self.old) (reading_of self.new) }
         ensures count { self.new.read ≡ self.old.read }
     {

@@ -8,7 +8,7 @@ ghost use Rattle.volume_block.specs.Valid.{IsLabel, IsCount, FillPayload, HoldsC
 use crate::layout::{
     DATA_KIND, LABEL_FIELDS_SIZE, LABEL_KIND, MARK_KIND, MARK_USED, PAYLOAD_START,
 };
-use crate::sealing::seal;
+use crate::sealing::finish_block;
 use crate::{Block, Label};
 use byteorder::{BigEndian, ByteOrder};
 use room_base::{CopyNo, Ssid, Volid};
@@ -22,7 +22,7 @@ pub fn encode_label(label: &Label, into: &mut [u8])
 {
     let used = LABEL_FIELDS_SIZE + label.pool_length;
     write_label_payload(label, &mut into[PAYLOAD_START..]);
-    seal(LABEL_KIND, label.volid.0, 0, u32::from(used), into);
+    finish_block(LABEL_KIND, label.volid.0, 0, u32::from(used), into);
 }
 
 // Writes a label's payload.
@@ -58,7 +58,7 @@ pub fn encode_mark(volid: Volid, number: u64, count: u32, into: &mut [u8])
     ensures valid { ValidBlock into.new volid.0 number (Block.Mark count) }
 {
     BigEndian::write_u32(&mut into[PAYLOAD_START..], count);
-    seal(MARK_KIND, volid.0, number, MARK_USED, into);
+    finish_block(MARK_KIND, volid.0, number, MARK_USED, into);
 }
 
 /// Makes a data block of the chunks that stand in their place and fill the first `used` bytes of the
@@ -72,7 +72,7 @@ pub fn seal_data(volid: Volid, number: u64, used: u32, into: &mut [u8])
     ensures holds { (chunks : List ChunkText) → FillPayload chunks used into.old → HoldsChunks into.new volid.0 number chunks }
     ensures valid { (chunks : List ChunkText) → FillPayload chunks used into.old → ValidBlock into.new volid.0 number (Block.Data used) }
 {
-    seal(DATA_KIND, volid.0, number, used, into);
+    finish_block(DATA_KIND, volid.0, number, used, into);
 }
 
 /// Writes the bytes of a chunk before those of its stream, of which there are `count`.

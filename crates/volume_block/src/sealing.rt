@@ -9,7 +9,7 @@ use byteorder::{BigEndian, ByteOrder};
 use sha2::{Digest, Sha256};
 
 /// Makes a block of the first `used` bytes of the payload.
-pub(crate) fn seal(kind: u8, volid: u64, number: u64, used: u32, block: &mut [u8])
+pub(crate) fn finish_block(kind: u8, volid: u64, number: u64, used: u32, block: &mut [u8])
     requires whole { length block.old ≡ 4096 }
     requires fits { used ≤ 4040 }
     ensures { block.new ≡ block_text kind volid number (take used (drop 56 block.old)) }

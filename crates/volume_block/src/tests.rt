@@ -2,7 +2,7 @@ ghost use Rattle.std.specs.Prelude.{◌≡◌, ◌≤◌, ◌<◌, length};
 ghost use Rattle.volume_block.specs.Valid.{IsLabel};
 
 use super::*;
-use crate::sealing::seal;
+use crate::sealing::finish_block;
 use room_base::{Cart, CopyNo, Moment, Ssid, Volid};
 use std::test::*;
 
@@ -112,7 +112,7 @@ fn first_wrong_part(rt: HostRuntime) {
     assert_eq!(rt; why_of(24, 0), Some(Reason::Digest));
     assert_eq!(rt; why_of(59, 2), Some(Reason::Digest));
     let mut none = [0u8; BLOCK_SIZE];
-    seal(b'F', 1, 1, 4, &mut none);
+    finish_block(b'F', 1, 1, 4, &mut none);
     assert!(rt;
         matches!(
             decode_block(&none, Volid(1), 1),

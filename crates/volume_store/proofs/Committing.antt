@@ -9,7 +9,7 @@ use Rattle.volume_block.proofs.Lengths.{length-mark_text, length-data_text, leng
 use Rattle.volume_block.specs.declared.label.Label.{Label}
 use Rattle.room_disk.specs.Crash.{overlaid, GatedTorn}
 use Rattle.room_disk.proofs.Overlay.{padded, length-padded, length-overlaid, overlaid-before, letter_whole}
-use Rattle.volume_store.specs.Committed.{block_at, kind_at, Whole, ArePlaces, CommittedFile, Closed, FilesFrom, Committed, Labelled}
+use Rattle.volume_store.specs.Committed.{block_at, kind_byte_at, Whole, AreDataPlaces, CommittedFile, Closed, FilesFrom, Committed, Labelled}
 use Rattle.volume_store.proofs.Files.{closed_inside, closed_byte, volume_then, volume_kept}
 use Rattle.volume_store.proofs.Regions.{opened_region}
 use Rattle.volume_store.specs.Writes.{added_file, opened, with_file, IsWholeOrAbsent}
@@ -19,7 +19,7 @@ use Rattle.volume_store.proofs.Blocks.{SameBelow, block_behind, byte_behind}
 pub places_behind : (bytes before rest : List ℕ) (volid first : ℕ) (blocks : List (List ChunkText))
     → bytes ≡ before ++ blocks_text volid first blocks ++ rest → length before ≡ 4096 * first
     → IsVolid volid → 1 ≤ first → first + length blocks < 2 ^ 64 → AreBlocks blocks
-    → ArePlaces bytes volid first (map Whole blocks)
+    → AreDataPlaces bytes volid first (map Whole blocks)
 places_behind bytes before rest volid first [] is from volume some last allowed = tt
 places_behind bytes before rest volid first (chunks ∷ blocks) is from volume some last allowed =
     let this = data_text volid first chunks in
@@ -83,8 +83,8 @@ file_behind bytes before rest volid mark blocks region is from sealed =
       (
         omega (arith, count),
         rw third (omega (arith, behind, length-append (before ++ open_mark ++ data_blocks) (0 ∷ (replicate 4095 0 ++ rest)))),
-        λ opens. (let zero_byte : kind_at bytes (mark + length (map Whole blocks) + 1) ≡ 0 =
-            ap (λ whole. kind_at whole (mark + length (map Whole blocks) + 1)) third
+        λ opens. (let zero_byte : kind_byte_at bytes (mark + length (map Whole blocks) + 1) ≡ 0 =
+            ap (λ whole. kind_byte_at whole (mark + length (map Whole blocks) + 1)) third
             ∙ byte_behind (4096 * (mark + length (map Whole blocks) + 1)) 0 (before ++ open_mark ++ data_blocks) (replicate 4095 0 ++ rest) behind in
             absurd (omega (arith, sym zero_byte ∙ opens))),
       ),

@@ -5,7 +5,7 @@ use Rattle.std.proofs.Math.Decide.{ℕ_discrete}
 use Rattle.volume_block.specs.Valid.{ValidBlock}
 use Rattle.volume_block.specs.declared.label.Label.{Label}
 use Rattle.volume_block.specs.declared.block.Block.TheVariants as kinds
-use Rattle.volume_store.specs.Committed.{block_at, kind_at, CommittedFile, End, Closed, Stop, FilesFrom, Contents, Unlabelled, BadLabel, Labelled, HasLabel, Committed}
+use Rattle.volume_store.specs.Committed.{block_at, kind_byte_at, CommittedFile, End, Closed, Stop, FilesFrom, Contents, Unlabelled, BadLabel, Labelled, HasLabel, Committed}
 use Rattle.volume_block.proofs.Deciding.{is_label, is_mark}
 use Rattle.volume_store.proofs.Walking.{places_from}
 
@@ -25,7 +25,7 @@ one_file bytes volid mark count valid behind =
     let Valid : ℕ → Type 0 = λ (n : ℕ). ValidBlock (block_at bytes mark) volid mark (kinds.Mark n) in
     record { files = file ∷ rest.files; end = rest.end; are = (refl, subst Valid (sym found.counted) valid, found.are, rest.are) }
 
-from_mark : (bytes : List ℕ) (volid mark : ℕ) → (4096 * mark < length bytes) ⊎ (length bytes ≤ 4096 * mark) → Dec (kind_at bytes mark ≡ 0x46)
+from_mark : (bytes : List ℕ) (volid mark : ℕ) → (4096 * mark < length bytes) ⊎ (length bytes ≤ 4096 * mark) → Dec (kind_byte_at bytes mark ≡ 0x46)
     → Dec ((count : ℕ) × ValidBlock (block_at bytes mark) volid mark (kinds.Mark count))
     → ((next : ℕ) → HasFiles bytes volid (mark + next + 1)) → HasFiles bytes volid mark
 from_mark bytes volid mark (inr short) opens valid behind = record { files = []; end = Stop mark; are = (refl, inl short) }
@@ -37,7 +37,7 @@ from_mark bytes volid mark (inl inside) (yes opens) (yes valid) behind = one_fil
 files_from : (fuel : ℕ) (bytes : List ℕ) (volid mark : ℕ) → length bytes ≤ 4096 * mark + fuel → HasFiles bytes volid mark
 files_from zero bytes volid mark ends = record { files = []; end = Stop mark; are = (refl, inl (omega (arith, ends))) }
 files_from (suc fuel) bytes volid mark ends =
-    from_mark bytes volid mark (cases_lt (4096 * mark) (length bytes)) (ℕ_discrete (kind_at bytes mark) 0x46) (is_mark (block_at bytes mark) volid mark)
+    from_mark bytes volid mark (cases_lt (4096 * mark) (length bytes)) (ℕ_discrete (kind_byte_at bytes mark) 0x46) (is_mark (block_at bytes mark) volid mark)
     (λ next. files_from fuel bytes volid (mark + next + 1) (omega (arith, ends)))
 
 -- ---- a cartridge

@@ -4,7 +4,7 @@ use Rattle.std.proofs.lemmas.List.{append-nil}
 use Rattle.volume_block.specs.Valid.{ValidBlock, HoldsChunks}
 use Rattle.volume_block.specs.declared.label.Label.{Label}
 use Rattle.volume_block.specs.declared.block.Block.TheVariants as kinds
-use Rattle.volume_store.specs.Committed.{block_at, kind_at, Place, Whole, Damaged, IsPlace, ArePlaces, CommittedFile, End, Closed, FilesFrom, HasLabel, Committed, Labelled}
+use Rattle.volume_store.specs.Committed.{block_at, kind_byte_at, DataPlace, Whole, Damaged, IsDataPlace, AreDataPlaces, CommittedFile, End, Closed, FilesFrom, HasLabel, Committed, Labelled}
 use Rattle.volume_store.proofs.Blocks.{SameBelow, block_same}
 
 -- the end isn't before the first mark place
@@ -22,21 +22,21 @@ closed_inside bytes volid mark place (file ∷ files) held =
     closed_inside bytes volid (mark + length file.places + 1) place files held.3
 
 pub closed_byte : (bytes : List ℕ) (volid mark place : ℕ) (files : List CommittedFile)
-    → FilesFrom bytes volid mark files (Closed place) → kind_at bytes place ≢ 0x46
+    → FilesFrom bytes volid mark files (Closed place) → kind_byte_at bytes place ≢ 0x46
 closed_byte bytes volid mark place [] ends =
-    let P : ℕ → Type 0 = λ at. kind_at bytes at ≢ 0x46 in subst P (sym ends.0) ends.2
+    let P : ℕ → Type 0 = λ at. kind_byte_at bytes at ≢ 0x46 in subst P (sym ends.0) ends.2
 closed_byte bytes volid mark place (file ∷ files) held =
     closed_byte bytes volid (mark + length file.places + 1) place files held.3
 
-place_same : (old new : List ℕ) (volid number : ℕ) (place : Place) → block_at new number ≡ block_at old number
-    → IsPlace old volid number place → IsPlace new volid number place
+place_same : (old new : List ℕ) (volid number : ℕ) (place : DataPlace) → block_at new number ≡ block_at old number
+    → IsDataPlace old volid number place → IsDataPlace new volid number place
 place_same old new volid number (Whole chunks) same held =
     let P : List ℕ → Type 0 = λ block. HoldsChunks block volid number chunks in subst P (sym same) held
 place_same old new volid number Damaged same damaged = λ chunks held.
     damaged chunks (let P : List ℕ → Type 0 = λ block. HoldsChunks block volid number chunks in subst P same held)
 
-pub places_same : (limit : ℕ) (old new : List ℕ) (volid first : ℕ) (places : List Place) → SameBelow limit old new
-    → 4096 * (first + length places) ≤ limit → ArePlaces old volid first places → ArePlaces new volid first places
+pub places_same : (limit : ℕ) (old new : List ℕ) (volid first : ℕ) (places : List DataPlace) → SameBelow limit old new
+    → 4096 * (first + length places) ≤ limit → AreDataPlaces old volid first places → AreDataPlaces new volid first places
 places_same limit old new volid first [] same ends held = tt
 places_same limit old new volid first (place ∷ places) same ends held = (
   place_same old new volid first place (block_same limit first old new same (omega arith)) held.0,
@@ -77,7 +77,7 @@ volume_then old new label files more mark end held same next =
 -- the same files, where the mark place is still closed
 pub volume_kept : (old new : List ℕ) (label : Label) (files : List CommittedFile) (mark : ℕ)
     → Committed old (Labelled label files (Closed mark)) → SameBelow (4096 * mark) old new
-    → 4096 * mark < length new → kind_at new mark ≢ 0x46 → Committed new (Labelled label files (Closed mark))
+    → 4096 * mark < length new → kind_byte_at new mark ≢ 0x46 → Committed new (Labelled label files (Closed mark))
 volume_kept old new label files mark held same long closed =
     let P : List CommittedFile → Type 0 = λ all. Committed new (Labelled label all (Closed mark)) in
     subst P (append-nil files) (volume_then old new label files [] mark (Closed mark) held same (refl, long, closed))

@@ -10,7 +10,7 @@ use Rattle.volume_block.specs.declared.block.Reason.TheVariants as reasons
 use Rattle.volume_block.proofs.Lengths.{length-valid}
 use Rattle.volume_block.proofs.Blocks.{parts_of, label_parts, right_part}
 use Rattle.volume_block.proofs.OneBlock.{one_block}
-use Rattle.volume_store.specs.Committed.{block_at, kind_at}
+use Rattle.volume_store.specs.Committed.{block_at, kind_byte_at}
 use Rattle.volume_store.specs.Reads.{IsBad, IsBadLabel, FindsLabel, Finds}
 use Rattle.volume_store.specs.declared.label.Found.{Found}
 use Rattle.volume_store.specs.declared.label.Found.TheVariants as found
@@ -60,7 +60,7 @@ no_mark block volid number read valid other count mark =
 
 -- ---- the front of a cartridge
 
-pub first_byte : (number : ℕ) (bytes : List ℕ) → get_or (block_at bytes number) 0 0 ≡ kind_at bytes number
+pub first_byte : (number : ℕ) (bytes : List ℕ) → get_or (block_at bytes number) 0 0 ≡ kind_byte_at bytes number
 unfolding block_at
 first_byte number bytes = get_or-take 4096 (drop (4096 * number) bytes) 0 0 (omega arith) ∙ get_or-drop (4096 * number) bytes 0 0
     ∙ ap (λ (n : ℕ). get_or bytes n 0) (let same : 4096 * number + 0 ≡ 4096 * number = omega arith in same)

@@ -9,7 +9,7 @@ use Rattle.volume_block.specs.declared.label.Label.{Label}
 use Rattle.volume_block.proofs.Lengths.{length-label_text, length-closed_block}
 use Rattle.room_disk.specs.Crash.{overlaid, Torn, GatedTorn}
 use Rattle.room_disk.proofs.Overlay.{letter_whole}
-use Rattle.volume_store.specs.Committed.{block_at, kind_at, Committed, Unlabelled}
+use Rattle.volume_store.specs.Committed.{block_at, kind_byte_at, Committed, Unlabelled}
 use Rattle.volume_store.specs.Writes.{labelled, without_files, IsOpening}
 use Rattle.volume_store.specs.Reads.{IsClosed}
 use Rattle.volume_store.proofs.Blocks.{block_behind, byte_behind}
@@ -60,8 +60,8 @@ labelled_empty label old allowed =
       (
         refl,
         rw next (omega (arith, long, length-append text (0 ∷ (replicate 4095 0 ++ drop 8192 old)))),
-        λ opens. (let zero_byte : kind_at (labelled label old) 1 ≡ 0 =
-            ap (λ bytes. kind_at bytes 1) next ∙ byte_behind 4096 0 text (replicate 4095 0 ++ drop 8192 old) long in
+        λ opens. (let zero_byte : kind_byte_at (labelled label old) 1 ≡ 0 =
+            ap (λ bytes. kind_byte_at bytes 1) next ∙ byte_behind 4096 0 text (replicate 4095 0 ++ drop 8192 old) long in
             absurd (omega (arith, sym zero_byte ∙ opens))),
       ),
     )

@@ -6,13 +6,13 @@ use Rattle.volume_block.specs.declared.label.Label.{Label}
 use Rattle.volume_block.specs.declared.block.Block.TheVariants as kinds
 use Rattle.volume_block.proofs.Lengths.{length-valid, kind-block_text}
 use Rattle.volume_block.proofs.OneBlock.{one_block, one_list_of_chunks}
-use Rattle.volume_store.specs.Committed.{block_at, kind_at, Place, Whole, Damaged, IsPlace, ArePlaces, CommittedFile, End, Closed, Stop, EndsAt, FilesFrom, Contents, Unlabelled, BadLabel, Labelled, HasLabel, Committed}
+use Rattle.volume_store.specs.Committed.{block_at, kind_byte_at, DataPlace, Whole, Damaged, IsDataPlace, AreDataPlaces, CommittedFile, End, Closed, Stop, EndsAt, FilesFrom, Contents, Unlabelled, BadLabel, Labelled, HasLabel, Committed}
 use Rattle.volume_store.proofs.Finding.{first_byte}
 
 -- ---- marks and labels
 
 -- a valid mark has the kind byte of an open one, and stands in the file
-mark_opens : (bytes : List ℕ) (volid mark count : ℕ) → ValidBlock (block_at bytes mark) volid mark (kinds.Mark count) → kind_at bytes mark ≡ 0x46
+mark_opens : (bytes : List ℕ) (volid mark count : ℕ) → ValidBlock (block_at bytes mark) volid mark (kinds.Mark count) → kind_byte_at bytes mark ≡ 0x46
 mark_opens bytes volid mark count valid =
     sym (first_byte mark bytes) ∙ ap (λ (block : List ℕ). slice_index block 0) valid.3 ∙ kind-block_text 0x46 volid mark _
 
@@ -47,22 +47,22 @@ one_label bytes one other valid others =
 
 -- ---- data places
 
-one_place : (bytes : List ℕ) (volid number : ℕ) (one other : Place) → IsPlace bytes volid number one → IsPlace bytes volid number other → one ≡ other
+one_place : (bytes : List ℕ) (volid number : ℕ) (one other : DataPlace) → IsDataPlace bytes volid number one → IsDataPlace bytes volid number other → one ≡ other
 one_place bytes volid number (Whole chunks) (Whole others) held holds =
     ap Whole (one_list_of_chunks (block_at bytes number) volid number volid number chunks others held holds)
 one_place bytes volid number (Whole chunks) Damaged held damaged = absurd (damaged chunks held)
 one_place bytes volid number Damaged (Whole chunks) damaged held = absurd (damaged chunks held)
 one_place bytes volid number Damaged Damaged damaged broken = refl
 
-one_list_of_places : (bytes : List ℕ) (volid first : ℕ) (ones others : List Place) → length ones ≡ length others
-    → ArePlaces bytes volid first ones → ArePlaces bytes volid first others → ones ≡ others
+one_list_of_places : (bytes : List ℕ) (volid first : ℕ) (ones others : List DataPlace) → length ones ≡ length others
+    → AreDataPlaces bytes volid first ones → AreDataPlaces bytes volid first others → ones ≡ others
 one_list_of_places bytes volid first [] [] count are is = refl
 one_list_of_places bytes volid first [] (other ∷ others) count are is = absurd (omega (arith, count))
 one_list_of_places bytes volid first (one ∷ ones) [] count are is = absurd (omega (arith, count))
 one_list_of_places bytes volid first (one ∷ ones) (other ∷ others) count are is =
     let front = one_place bytes volid first one other are.0 is.0 in
     let rest = one_list_of_places bytes volid (first + 1) ones others (omega (arith, count)) are.1 is.1 in
-    ap (λ (place : Place). place ∷ ones) front ∙ ap (λ (places : List Place). other ∷ places) rest
+    ap (λ (place : DataPlace). place ∷ ones) front ∙ ap (λ (places : List DataPlace). other ∷ places) rest
 
 -- ---- files
 
@@ -84,7 +84,7 @@ one_end bytes volid mark (Closed place) (Stop other) ends is = absurd (no_stop b
 one_end bytes volid mark (Stop place) (Closed other) ends is = absurd (no_stop bytes volid mark other place is ends)
 one_end bytes volid mark (Stop place) (Stop other) ends is = ap Stop (ends.0 ∙ sym is.0)
 
-of_fields : ℕ → List Place → CommittedFile
+of_fields : ℕ → List DataPlace → CommittedFile
 of_fields mark places = record { mark = mark; places = places }
 
 has_fields : (file : CommittedFile) → of_fields file.mark file.places ≡ file

@@ -6,7 +6,7 @@ use Rattle.volume_block.specs.Chunks.{ChunkText}
 use Rattle.volume_block.specs.Valid.{ValidBlock, HoldsChunks}
 use Rattle.volume_block.specs.declared.block.Block.TheVariants as kinds
 use Rattle.volume_block.proofs.Deciding.{is_data}
-use Rattle.volume_store.specs.Committed.{block_at, Place, Whole, Damaged, ArePlaces, CommittedFile, End, Closed, Stop, EndsAt, FilesFrom}
+use Rattle.volume_store.specs.Committed.{block_at, DataPlace, Whole, Damaged, AreDataPlaces, CommittedFile, End, Closed, Stop, EndsAt, FilesFrom}
 use Rattle.volume_store.specs.Reads.{IsFile, IsWanted, HasWalked, WalksOver, StopsAt, IsBadMark, IsWithin, HasRange}
 use Rattle.room_disk.specs.Disk.{DiskView, Quiet}
 use Rattle.std.specs.Prelude.{MatchOption}
@@ -17,9 +17,9 @@ use Rattle.volume_store.proofs.Finding.{first_byte}
 -- ---- each data place is whole or damaged
 
 pub record HasPlaces (bytes : List ℕ) (volid first count : ℕ) : Type 0 where
-  pub places : List Place
+  pub places : List DataPlace
   pub counted : length places ≡ count
-  pub are : ArePlaces bytes volid first places
+  pub are : AreDataPlaces bytes volid first places
 
 one_more : (bytes : List ℕ) (volid first count : ℕ) → Dec ((chunks : List ChunkText) × HoldsChunks (block_at bytes first) volid first chunks)
     → HasPlaces bytes volid (first + 1) count → HasPlaces bytes volid first (suc count)

@@ -10,27 +10,27 @@ unfoldable pub block_at : List ℕ → ℕ → List ℕ
 block_at bytes number = take 4096 (drop (4096 * number) bytes)
 
 -- the kind byte of a block, 0 where the file ends before it
-abbrev pub kind_at : List ℕ → ℕ → ℕ
-kind_at bytes number = slice_index bytes (4096 * number)
+abbrev pub kind_byte_at : List ℕ → ℕ → ℕ
+kind_byte_at bytes number = slice_index bytes (4096 * number)
 
 -- a data place of a committed file: a valid data block with its chunks, or a damaged one
-pub data Place : Type 0 where
-  Whole : List ChunkText → Place
-  Damaged : Place
+pub data DataPlace : Type 0 where
+  Whole : List ChunkText → DataPlace
+  Damaged : DataPlace
 
-abbrev pub IsPlace : List ℕ → ℕ → ℕ → Place → Type 0
-IsPlace bytes volid number (Whole chunks) = HoldsChunks (block_at bytes number) volid number chunks
-IsPlace bytes volid number Damaged = (chunks : List ChunkText) → HoldsChunks (block_at bytes number) volid number chunks → ⊥
+abbrev pub IsDataPlace : List ℕ → ℕ → ℕ → DataPlace → Type 0
+IsDataPlace bytes volid number (Whole chunks) = HoldsChunks (block_at bytes number) volid number chunks
+IsDataPlace bytes volid number Damaged = (chunks : List ChunkText) → HoldsChunks (block_at bytes number) volid number chunks → ⊥
 
 -- data places one behind the other, numbered from `first`
-abbrev pub ArePlaces : List ℕ → ℕ → ℕ → List Place → Type 0
-ArePlaces bytes volid first [] = Unit {0}
-ArePlaces bytes volid first (place ∷ places) = IsPlace bytes volid first place × ArePlaces bytes volid (first + 1) places
+abbrev pub AreDataPlaces : List ℕ → ℕ → ℕ → List DataPlace → Type 0
+AreDataPlaces bytes volid first [] = Unit {0}
+AreDataPlaces bytes volid first (place ∷ places) = IsDataPlace bytes volid first place × AreDataPlaces bytes volid (first + 1) places
 
 -- a committed file: where its mark stands, and its data places
 pub record CommittedFile : Type 0 where
   pub mark : ℕ
-  pub places : List Place
+  pub places : List DataPlace
 
 -- where the committed files end: at a closed mark place, or at one that is invalid or not there
 pub data End : Type 0 where
@@ -39,10 +39,10 @@ pub data End : Type 0 where
 
 abbrev pub EndsAt : List ℕ → ℕ → ℕ → End → Type 0
 EndsAt bytes volid mark (Closed place) =
-    (place ≡ mark) × (4096 * mark < length bytes) × (kind_at bytes mark ≢ 0x46)
+    (place ≡ mark) × (4096 * mark < length bytes) × (kind_byte_at bytes mark ≢ 0x46)
 EndsAt bytes volid mark (Stop place) = (place ≡ mark)
     × ((length bytes ≤ 4096 * mark)
-    ⊎ ((kind_at bytes mark ≡ 0x46)
+    ⊎ ((kind_byte_at bytes mark ≡ 0x46)
     × ((count : ℕ) → ValidBlock (block_at bytes mark) volid mark (kinds.Mark count) → ⊥)))
 
 -- The files from this mark place on, and their end. Each has a valid open mark with the count of its data
@@ -51,7 +51,7 @@ abbrev pub FilesFrom : List ℕ → ℕ → ℕ → List CommittedFile → End �
 FilesFrom bytes volid mark [] end = EndsAt bytes volid mark end
 FilesFrom bytes volid mark (file ∷ files) end = (file.mark ≡ mark)
     × ValidBlock (block_at bytes mark) volid mark (kinds.Mark (length file.places))
-    × ArePlaces bytes volid (mark + 1) file.places
+    × AreDataPlaces bytes volid (mark + 1) file.places
     × FilesFrom bytes volid (mark + length file.places + 1) files end
 
 -- what a cartridge is

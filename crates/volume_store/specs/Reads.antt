@@ -79,9 +79,9 @@ Finds bytes (found.Damaged bad) = Committed bytes BadLabel × IsBadLabel (block_
 Finds bytes (found.Labelled label) = HasLabel bytes label
 
 -- a label that is found is allowed
-abbrev pub IsAllowed : Found → Type 0
-IsAllowed (found.Labelled label) = IsLabel label
-IsAllowed other = Unit {0}
+abbrev pub HasAllowedLabel : Found → Type 0
+HasAllowedLabel (found.Labelled label) = IsLabel label
+HasAllowedLabel other = Unit {0}
 
 -- ---- marks
 

@@ -7,8 +7,8 @@ use Rattle.volume_block.specs.declared.label.Label.{Label}
 use Rattle.volume_store.specs.Committed.{Whole, CommittedFile, Closed, Contents, Unlabelled, Labelled, Committed}
 
 -- the file of a cartridge
-abbrev pub file_of : ℕ → ℕ
-file_of cart = cart + 1
+abbrev pub cart_file : ℕ → ℕ
+cart_file cart = cart + 1
 
 -- there is such a cartridge
 abbrev pub IsCart : ℕ → Type 0

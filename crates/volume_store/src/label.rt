@@ -4,8 +4,8 @@ ghost use Rattle.room_disk.specs.Disk.{Quiet, Others, Settled, Leaves, OnFile, F
 ghost use Rattle.room_disk.specs.Crash.{overlaid, Torn};
 ghost use Rattle.volume_block.specs.Valid.{IsLabel, label_text};
 ghost use Rattle.volume_block.specs.Region.{closed_block};
-ghost use Rattle.volume_store.specs.Writes.{file_of, IsCart, labelled, without_files, IsBeingLabelled, IsOpening};
-ghost use Rattle.volume_store.specs.Reads.{IsClosed, FindsLabel, Finds, IsAllowed};
+ghost use Rattle.volume_store.specs.Writes.{cart_file, IsCart, labelled, without_files, IsBeingLabelled, IsOpening};
+ghost use Rattle.volume_store.specs.Reads.{IsClosed, FindsLabel, Finds, HasAllowedLabel};
 ghost use Rattle.volume_store.specs.Committed.{Committed};
 
 use crate::reading::read_front;
@@ -32,13 +32,13 @@ const LABEL_GATE: u8 = b'L';
 /// Reads the label of a cartridge. It syncs the cartridge first, so that what it finds stays.
 pub fn read_label<D: Store>(store: &mut D, cart: Cart) -> Result<Found, Failed>
     requires { IsCart cart.0 }
-    ensures cause { FileCause (file_of cart.0) (D.view store.old) (D.view store.new) result }
+    ensures cause { FileCause (cart_file cart.0) (D.view store.old) (D.view store.new) result }
     ensures tells { (D.view store.new).tells ≡ (D.view store.old).tells }
     ensures quiet { Told (D.view store.old).tells (Quiet (D.view store.old) (D.view store.new)) }
-    ensures settled { Told (D.view store.old).tells (OnOk result (Settled (D.view store.new) (file_of cart.0))) }
-    ensures allowed { IfOk result IsAllowed }
+    ensures settled { Told (D.view store.old).tells (OnOk result (Settled (D.view store.new) (cart_file cart.0))) }
+    ensures allowed { IfOk result HasAllowedLabel }
     ensures found { Told (D.view store.old).tells
-        (IfOk result (Finds ((D.view store.old).reads (file_of cart.0)))) }
+        (IfOk result (Finds ((D.view store.old).reads (cart_file cart.0)))) }
 {
     let file = cart.0 + 1;
     store.sync(file)?;
@@ -50,7 +50,7 @@ pub fn read_label<D: Store>(store: &mut D, cart: Cart) -> Result<Found, Failed>
 fn label_of(bytes: &[u8]) -> Found
     requires { length bytes.now ≤ 4096 }
     ensures found { FindsLabel bytes.now result }
-    ensures allowed { IsAllowed result }
+    ensures allowed { HasAllowedLabel result }
 {
     match bytes {
         [] => Found::Blank,
@@ -64,7 +64,7 @@ fn open_label_of(bytes: &[u8]) -> Found
     requires size { length bytes.now ≤ 4096 }
     requires open { slice_index bytes.now 0 ≡ 0x4C }
     ensures found { FindsLabel bytes.now result }
-    ensures allowed { IsAllowed result }
+    ensures allowed { HasAllowedLabel result }
 {
     if bytes.len() < BLOCK_SIZE {
         return Found::Damaged(BadBlock {
@@ -81,22 +81,22 @@ fn open_label_of(bytes: &[u8]) -> Found
 /// label.
 pub fn write_label<D: Store>(store: &mut D, label: &Label) -> Result<(), Failed>
     requires { IsLabel label.now }
-    ensures cause { FileCause (file_of label.now.cart.0) (D.view store.old) (D.view store.new) result }
+    ensures cause { FileCause (cart_file label.now.cart.0) (D.view store.old) (D.view store.new) result }
     ensures tells { (D.view store.new).tells ≡ (D.view store.old).tells }
     ensures others { Told (D.view store.old).tells
-        (Others (file_of label.now.cart.0) (D.view store.old) (D.view store.new)) }
+        (Others (cart_file label.now.cart.0) (D.view store.old) (D.view store.new)) }
     ensures written { Told (D.view store.old).tells (OnOk result
-        ((D.view store.new).reads (file_of label.now.cart.0)
-        ≡ labelled label.now ((D.view store.old).reads (file_of label.now.cart.0)))) }
+        ((D.view store.new).reads (cart_file label.now.cart.0)
+        ≡ labelled label.now ((D.view store.old).reads (cart_file label.now.cart.0)))) }
     ensures empty { Told (D.view store.old).tells (OnOk result
-        (Committed ((D.view store.new).reads (file_of label.now.cart.0)) (without_files label.now))) }
+        (Committed ((D.view store.new).reads (cart_file label.now.cart.0)) (without_files label.now))) }
     ensures settled { Told (D.view store.old).tells
-        (OnOk result (Settled (D.view store.new) (file_of label.now.cart.0))) }
+        (OnOk result (Settled (D.view store.new) (cart_file label.now.cart.0))) }
     // At every moment of the call a crash leaves the cartridge as it was, without a label, or with the
     // new label and no file.
-    ensures moments { Told (D.view store.old).tells (Settled (D.view store.old) (file_of label.now.cart.0)
-        → Leaves (D.view store.old) (D.view store.new) (OnFile (file_of label.now.cart.0)
-        (IsBeingLabelled label.now ((D.view store.old).reads (file_of label.now.cart.0))) (D.view store.old))) }
+    ensures moments { Told (D.view store.old).tells (Settled (D.view store.old) (cart_file label.now.cart.0)
+        → Leaves (D.view store.old) (D.view store.new) (OnFile (cart_file label.now.cart.0)
+        (IsBeingLabelled label.now ((D.view store.old).reads (cart_file label.now.cart.0))) (D.view store.old))) }
 {
     let file = label.cart.0 + 1;
     close_label(store, file)?;

@@ -5,7 +5,7 @@ ghost use Rattle.room_base.specs.Outside.{Told};
 ghost use Rattle.room_disk.specs.Disk.{Quiet, FileCause};
 ghost use Rattle.volume_block.specs.Valid.{IsLabel};
 ghost use Rattle.volume_store.specs.Committed.{block_at};
-ghost use Rattle.volume_store.specs.Writes.{file_of, IsCart};
+ghost use Rattle.volume_store.specs.Writes.{cart_file, IsCart};
 ghost use Rattle.volume_store.specs.Reads.{FindsMark, HasCount, Walks, HasRange, WalkCause, Mounts, MountCause, SettlesUnlessFailed};
 
 use crate::commit::Volume;
@@ -93,14 +93,14 @@ pub const FIRST_MARK: u64 = 1;
 /// the cartridge first, so that what it finds stays.
 pub fn mount<D: Store>(store: &mut D, cart: Cart) -> Result<Volume, MountFault>
     requires { IsCart cart.0 }
-    ensures cause { MountCause (file_of cart.0) (D.view store.old) (D.view store.new) result }
+    ensures cause { MountCause (cart_file cart.0) (D.view store.old) (D.view store.new) result }
     ensures tells { (D.view store.new).tells ≡ (D.view store.old).tells }
     ensures quiet { Told (D.view store.old).tells (Quiet (D.view store.old) (D.view store.new)) }
-    ensures settled { Told (D.view store.old).tells (SettlesUnlessFailed result (D.view store.new) (file_of cart.0)) }
+    ensures settled { Told (D.view store.old).tells (SettlesUnlessFailed result (D.view store.new) (cart_file cart.0)) }
     ensures cart { IfOk result (λ volume. volume.cart ≡ cart) }
     ensures label { IfOk result (λ volume. IsLabel volume.label) }
     ensures mark { IfOk result (λ volume. (1 ≤ volume.mark) × (volume.mark < 2 ^ 52)) }
-    ensures mounted { Told (D.view store.old).tells (Mounts ((D.view store.old).reads (file_of cart.0)) cart.0 result) }
+    ensures mounted { Told (D.view store.old).tells (Mounts ((D.view store.old).reads (cart_file cart.0)) cart.0 result) }
 {
     let label = match read_label(store, cart)? {
         Found::Blank | Found::Closed => return Err(MountFault::Unlabelled),
@@ -127,11 +127,11 @@ pub fn walk_marks<D: Store>(
     wanted: u64,
 ) -> Result<MarkWalk, WalkFault>
     requires { IsCart cart.0 }
-    ensures cause { WalkCause (file_of cart.0) (D.view store.old) (D.view store.new) result }
+    ensures cause { WalkCause (cart_file cart.0) (D.view store.old) (D.view store.new) result }
     ensures tells { (D.view store.new).tells ≡ (D.view store.old).tells }
     ensures quiet { Told (D.view store.old).tells (Quiet (D.view store.old) (D.view store.new)) }
     ensures range { IfOk result (λ walk. HasRange (2 ^ 52) walk) }
-    ensures walked { Told (D.view store.old).tells (Walks ((D.view store.old).reads (file_of cart.0)) volid.0 wanted result) }
+    ensures walked { Told (D.view store.old).tells (Walks ((D.view store.old).reads (cart_file cart.0)) volid.0 wanted result) }
 {
     let file = cart.0 + 1;
     let blocks = block_count(store.len(file)?);
@@ -211,10 +211,10 @@ fn read_mark<D: Store>(
 {
     let mut block = [0; BLOCK_SIZE];
     let count = read_front(store, file, number, &mut block)?;
-    Ok(mark_of(&block[..count], volid, number))
+    Ok(mark_place_of(&block[..count], volid, number))
 }
 
-fn mark_of(bytes: &[u8], volid: Volid, number: u64) -> MarkPlace
+fn mark_place_of(bytes: &[u8], volid: Volid, number: u64) -> MarkPlace
     requires { length bytes.now ≤ 4096 }
     ensures found { FindsMark bytes.now volid.0 number result }
     ensures count { HasCount result }

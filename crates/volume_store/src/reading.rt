@@ -6,7 +6,7 @@ ghost use Rattle.room_disk.specs.Disk.{Quiet, FileCause};
 ghost use Rattle.volume_block.specs.Valid.{ValidBlock};
 ghost use Rattle.volume_block.specs.declared.block.Block.{Block};
 ghost use Rattle.volume_store.specs.Committed.{block_at};
-ghost use Rattle.volume_store.specs.Writes.{file_of, IsCart};
+ghost use Rattle.volume_store.specs.Writes.{cart_file, IsCart};
 ghost use Rattle.volume_store.specs.Reads.{ReadCause, JudgesBlock, IsJudged};
 
 use room_base::{Cart, Failed, Volid};
@@ -49,14 +49,14 @@ pub fn read_block<D: Store>(
     requires cart { IsCart cart.0 }
     requires place { number < 2 ^ 52 }
     requires whole { length into.old ≡ 4096 }
-    ensures cause { ReadCause (file_of cart.0) (D.view store.old) (D.view store.new) result }
+    ensures cause { ReadCause (cart_file cart.0) (D.view store.old) (D.view store.new) result }
     ensures tells { (D.view store.new).tells ≡ (D.view store.old).tells }
     ensures quiet { Told (D.view store.old).tells (Quiet (D.view store.old) (D.view store.new)) }
     ensures valid { IfOk result (λ block. ValidBlock into.new volid.0 number block) }
     ensures read { Told (D.view store.old).tells
-        (OnOk result (into.new ≡ block_at ((D.view store.old).reads (file_of cart.0)) number)) }
+        (OnOk result (into.new ≡ block_at ((D.view store.old).reads (cart_file cart.0)) number)) }
     ensures judged { Told (D.view store.old).tells
-        (JudgesBlock (block_at ((D.view store.old).reads (file_of cart.0)) number) volid.0 number result) }
+        (JudgesBlock (block_at ((D.view store.old).reads (cart_file cart.0)) number) volid.0 number result) }
 {
     let count = read_front(store, cart.0 + 1, number, into)?;
     match judge(&into[..count], volid, number) {

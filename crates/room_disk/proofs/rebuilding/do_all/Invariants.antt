@@ -4,4 +4,4 @@ use Rattle.room_disk.proofs.rebuilding.do_all.Given as goal
 
 abbrev pub invariant-loop-deed : goal.invariant-loop-deed
 invariant-loop-deed l =
-    (l.bytes.bytes ≡ all_partly_done l.part l.file l.initial.bytes.bytes (reverse (take l.deed-index l.deeds))) × (l.bytes.room ≡ l.initial.bytes.room)
+    (l.bytes.bytes ≡ all_partly_done l.part l.file l.initial.bytes.bytes (reverse (take l.deed-index l.events))) × (l.bytes.room ≡ l.initial.bytes.room)

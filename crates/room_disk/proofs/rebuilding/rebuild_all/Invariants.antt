@@ -7,5 +7,5 @@ use Rattle.room_disk.proofs.rebuilding.rebuild_all.Given as goal
 abbrev pub invariant-loop-file : goal.invariant-loop-file
 invariant-loop-file l =
     ((index : ℕ) (other : MemFile) → index < l.file-index
-    → IsRebuilt l.part (reverse l.deeds) (slice_index_or l.initial.files index other) (slice_index_or l.files index other))
+    → IsRebuilt l.part (reverse l.events) (slice_index_or l.initial.files index other) (slice_index_or l.files index other))
     × ((index : ℕ) (other : MemFile) → l.file-index ≤ index → slice_index_or l.files index other ≡ slice_index_or l.initial.files index other)

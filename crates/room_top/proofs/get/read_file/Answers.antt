@@ -1,7 +1,7 @@
 use Rattle.std.proofs.Common.{rules, ◌≡◌, ◌+◌, ℕ, List, sym, subst, refl, inr}
 use Rattle.std.specs.Prelude.{IsTrue}
-use Rattle.volume_store.specs.Committed.{HasLabel, ArePlaces}
-use Rattle.volume_store.specs.Writes.{file_of}
+use Rattle.volume_store.specs.Committed.{HasLabel, AreDataPlaces}
+use Rattle.volume_store.specs.Writes.{cart_file}
 use Rattle.room_top.specs.Raw.{IsFileOn}
 use Rattle.room_top.proofs.GetRuns.{places_of}
 use Rattle.room_top.proofs.get.read_file.Goals as goal
@@ -16,7 +16,7 @@ returns-in_err-label-clause-read g c = λ told.
 
 pub returns-in-Ok-clause-read : goal.returns-in-Ok-clause-read
 returns-in-Ok-clause-read g c = λ told.
-    let number = file_of c.args.cart.0 in
+    let number = cart_file c.args.cart.0 in
     let old = g.D.Store.view c.args.disk.now in
     let mid = g.D.Store.view c.find_raw_label.new.disk in
     let here = g.D.Store.view c.find_place.new.disk in
@@ -28,14 +28,14 @@ returns-in-Ok-clause-read g c = λ told.
     let raw = c.in_ok-label.ensures.found told in
     let Has : List ℕ → Type 0 = λ (disk : List ℕ). HasLabel disk label in
     let found = c.in_ok-place.ensures.found told_mid (subst Has (sym first) raw.0) raw.1 in
-    let Places : List ℕ → Type 0 = λ (disk : List ℕ). ArePlaces disk label.volid.0 (found.0.mark + 1) found.0.places in
+    let Places : List ℕ → Type 0 = λ (disk : List ℕ). AreDataPlaces disk label.volid.0 (found.0.mark + 1) found.0.places in
     let On : List ℕ → Type 0 = λ (disk : List ℕ). IsFileOn disk c.args.number label found.0 in
     let given = c.in-Ok.ensures.given told_here found.0 found.2 found.3 (subst Places (sym then) (places_of (mid.reads number) c.args.number label found.0 found.1)) in
     (label, (found.0, subst On first found.1, given))
 
 pub returns-in-Err-Damaged-clause-read : goal.returns-in-Err-Damaged-clause-read
 returns-in-Err-Damaged-clause-read g c = λ told.
-    let number = file_of c.args.cart.0 in
+    let number = cart_file c.args.cart.0 in
     let old = g.D.Store.view c.args.disk.now in
     let mid = g.D.Store.view c.find_raw_label.new.disk in
     let here = g.D.Store.view c.find_place.new.disk in
@@ -47,7 +47,7 @@ returns-in-Err-Damaged-clause-read g c = λ told.
     let raw = c.in_ok-label.ensures.found told in
     let Has : List ℕ → Type 0 = λ (disk : List ℕ). HasLabel disk label in
     let found = c.in_ok-place.ensures.found told_mid (subst Has (sym first) raw.0) raw.1 in
-    let Places : List ℕ → Type 0 = λ (disk : List ℕ). ArePlaces disk label.volid.0 (found.0.mark + 1) found.0.places in
+    let Places : List ℕ → Type 0 = λ (disk : List ℕ). AreDataPlaces disk label.volid.0 (found.0.mark + 1) found.0.places in
     let On : List ℕ → Type 0 = λ (disk : List ℕ). IsFileOn disk c.args.number label found.0 in
     let given = (rw c.in-Err-Damaged.field-0-is at c.in-Err-Damaged.ensures).given told_here found.0 found.2 found.3 (subst Places (sym then) (places_of (mid.reads number) c.args.number label found.0 found.1)) in
     rw c.damaged.ensures (inr (label, (found.0, subst On first found.1, refl, given)))

@@ -3,7 +3,7 @@ use Rattle.std.specs.Prelude.{IsTrue}
 use Rattle.volume_block.specs.Chunks.{ChunkText}
 use Rattle.volume_block.specs.Valid.{HoldsChunks}
 use Rattle.volume_store.specs.Committed.{block_at}
-use Rattle.volume_store.specs.Writes.{file_of}
+use Rattle.volume_store.specs.Writes.{cart_file}
 use Rattle.volume_store.proofs.Walking.{quiet_then}
 use Rattle.room_top.specs.Stages.{DataCause, IsDataRead, GivesPlaces}
 use Rattle.room_top.proofs.GetRuns.{read_more, data_later, data_given}
@@ -11,7 +11,7 @@ use Rattle.room_top.proofs.get.read_places.Goals as goal
 
 pub returns-in_err-read_data-clause-cause : goal.returns-in_err-read_data-clause-cause
 returns-in_err-read_data-clause-cause g c =
-    let file = file_of c.args.cart.0 in
+    let file = cart_file c.args.cart.0 in
     let fault = c.in_err-read_data.field-0.0 in
     let fact : DataCause {T = Vec ℕ Global} ((g.D.Store.view c.args.disk.now).faults file) ((g.D.Store.view c.read_data.new.disk).faults file) (Err fault) =
     data_later (Unit {0}) (Vec ℕ Global) ((g.D.Store.view c.args.disk.now).faults file) ((g.D.Store.view c.loop-index.disk).faults file)
@@ -20,7 +20,7 @@ returns-in_err-read_data-clause-cause g c =
 
 pub returns-in_err-read_data-clause-given : goal.returns-in_err-read_data-clause-given
 returns-in_err-read_data-clause-given g c = λ told file mark count are.
-    let number = file_of c.args.cart.0 in
+    let number = cart_file c.args.cart.0 in
     let index = c.loop-index.index in
     let old = g.D.Store.view c.args.disk.now in
     let here = g.D.Store.view c.loop-index.disk in
@@ -37,7 +37,7 @@ returns-in_err-read_data-clause-given g c = λ told file mark count are.
 
 pub loop-index-preserved : goal.loop-index-preserved
 loop-index-preserved g c =
-    let number = file_of c.args.cart.0 in
+    let number = cart_file c.args.cart.0 in
     let index = c.loop-index.index in
     let old = g.D.Store.view c.args.disk.now in
     let here = g.D.Store.view c.loop-index.disk in

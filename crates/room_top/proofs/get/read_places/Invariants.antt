@@ -1,8 +1,8 @@
 use Rattle.std.proofs.Common.{◌≡◌, ◌+◌, ◌≤◌, ℕ, length}
 use Rattle.room_base.specs.Outside.{Told}
 use Rattle.room_disk.specs.Disk.{Quiet}
-use Rattle.volume_store.specs.Committed.{CommittedFile, ArePlaces}
-use Rattle.volume_store.specs.Writes.{file_of}
+use Rattle.volume_store.specs.Committed.{CommittedFile, AreDataPlaces}
+use Rattle.volume_store.specs.Writes.{cart_file}
 use Rattle.room_top.proofs.GetRuns.{HasRead}
 use Rattle.room_top.proofs.get.read_places.Given as goal
 
@@ -13,5 +13,5 @@ invariant-loop-index g l =
     × ((g.D.Store.view l.disk).tells ≡ (g.D.Store.view l.initial.disk).tells)
     × Told (g.D.Store.view l.initial.disk).tells (Quiet (g.D.Store.view l.initial.disk) (g.D.Store.view l.disk))
     × Told (g.D.Store.view l.initial.disk).tells ((file : CommittedFile) → l.place.mark ≡ file.mark → l.place.count ≡ length file.places
-    → ArePlaces ((g.D.Store.view l.initial.disk).reads (file_of l.cart.0)) l.volid.0 (file.mark + 1) file.places
+    → AreDataPlaces ((g.D.Store.view l.initial.disk).reads (cart_file l.cart.0)) l.volid.0 (file.mark + 1) file.places
     → HasRead file.places l.bytes.items l.index)

@@ -1,9 +1,9 @@
 use Rattle.std.proofs.Common.{rules, ◌≡◌, ◌∙◌, ℕ, List, length, sym, ap, subst}
 use Rattle.std.specs.Prelude.{IsTrue}
-use Rattle.room_base.specs.Outside.{GainsFront}
-use Rattle.volume_store.specs.Writes.{file_of}
-use Rattle.room_top.specs.Put.{kept_line, number_of, IsSite}
-use Rattle.room_top.specs.Run.{status_of, AreInput, TouchesCartridge, IsKept, LeavesDisk}
+use Rattle.room_base.specs.Outside.{AddsFront}
+use Rattle.volume_store.specs.Writes.{cart_file}
+use Rattle.room_top.specs.Put.{kept_line, site_number, IsSite}
+use Rattle.room_top.specs.Run.{status_of, AreInput, TouchesCartridge, KeepsInput, LeavesDisk}
 use Rattle.room_top.proofs.PutRuns.{touches, untouched, kept_behind, leaves_quiet_disk, leaves_stored}
 use Rattle.room_top.proofs.put.put.Goals as goal
 
@@ -33,10 +33,10 @@ returns-in_err-store_file-clause-moments g c = λ told.
     touches input old mid new cart bytes site are quiet (c.in_ok-site.ensures.settled told) (c.in_ok-site.ensures.judged told)
     (c.in_err-store_file.ensures.others told_mid) (c.in_err-store_file.ensures.moments told_mid) in
     let fault = c.in_err-store_file.field-0.0 in
-    let file = file_of cart in
+    let file = cart_file cart in
     let At : List ℕ → Type 0 = λ (disk : List ℕ). IsSite cart disk site in
     let fact : LeavesDisk input cart old new fault =
-    leaves_stored input cart (number_of site) (mid.faults file) (new.faults file) old mid new bytes fault quiet c.in_err-store_file.ensures.cause
+    leaves_stored input cart (site_number site) (mid.faults file) (new.faults file) old mid new bytes fault quiet c.in_err-store_file.ensures.cause
     (c.in_err-store_file.ensures.stored told_mid (subst At (sym (quiet.reads file)) (c.in_ok-site.ensures.judged told))) touched in
     search rules
 
@@ -50,13 +50,13 @@ returns-in-Ok-write_all-clause-stored g c =
     let bytes = c.deref.result.now in
     let site = c.in_ok-site.site in
     let are : AreInput input bytes = λ known. c.deref.ensures.value ∙ (c.in_ok-bytes.ensures.judged known).0 in
-    let kept : IsKept input cart old new bytes (number_of site) = (
+    let kept : KeepsInput input cart old new bytes (site_number site) = (
       are,
       λ told. (let told_mid : IsTrue mid.tells = rw c.in_ok-site.ensures.disk_tells told in
-          kept_behind old mid new cart (number_of site) bytes site (c.in_ok-site.ensures.quiet told) (c.in_ok-site.ensures.judged told)
+          kept_behind old mid new cart (site_number site) bytes site (c.in_ok-site.ensures.quiet told) (c.in_ok-site.ensures.judged told)
           (c.in_ok-store_file.ensures.stored told_mid)),
     ) in
-    (bytes, (number_of site, kept))
+    (bytes, (site_number site, kept))
 
 pub returns-in-Ok-write_all-clause-moments : goal.returns-in-Ok-write_all-clause-moments
 returns-in-Ok-write_all-clause-moments g c = λ told.
@@ -85,18 +85,18 @@ returns-clause-printed g c = λ told_out.
     let bytes = c.deref.result.now in
     let site = c.in_ok-site.site in
     let are : AreInput input bytes = λ known. c.deref.ensures.value ∙ (c.in_ok-bytes.ensures.judged known).0 in
-    let kept : IsKept input cart old new bytes (number_of site) = (
+    let kept : KeepsInput input cart old new bytes (site_number site) = (
       are,
       λ told. (let told_mid : IsTrue mid.tells = rw c.in_ok-site.ensures.disk_tells told in
-          kept_behind old mid new cart (number_of site) bytes site (c.in_ok-site.ensures.quiet told) (c.in_ok-site.ensures.judged told)
+          kept_behind old mid new cart (site_number site) bytes site (c.in_ok-site.ensures.quiet told) (c.in_ok-site.ensures.judged told)
           (c.in_ok-store_file.ensures.stored told_mid)),
     ) in
     let size : c.len-2.result ≡ length c.in_ok-bytes.bytes.items = search rules in
-    let line : c.as_bytes.result.now ≡ kept_line (length bytes) (number_of site) cart =
+    let line : c.as_bytes.result.now ≡ kept_line (length bytes) (site_number site) cart =
     c.as_bytes.ensures.value ∙ c.in-Ok.ensures ∙ ap (λ count. kept_line count c.number.result cart) (size ∙ ap length (sym c.deref.ensures.value))
     ∙ ap (λ number. kept_line (length bytes) number cart) c.number.ensures in
-    let P : List ℕ → Type 0 = GainsFront (g.W.Sink.view c.args.out.now).written (g.W.Sink.view c.write_all.new.sink).written in
-    (bytes, (number_of site, kept, subst P line (c.in-Err.ensures.written told_out)))
+    let P : List ℕ → Type 0 = AddsFront (g.W.Sink.view c.args.out.now).written (g.W.Sink.view c.write_all.new.sink).written in
+    (bytes, (site_number site, kept, subst P line (c.in-Err.ensures.written told_out)))
 
 pub returns-clause-stored : goal.returns-clause-stored
 returns-clause-stored g c =
@@ -108,13 +108,13 @@ returns-clause-stored g c =
     let bytes = c.deref.result.now in
     let site = c.in_ok-site.site in
     let are : AreInput input bytes = λ known. c.deref.ensures.value ∙ (c.in_ok-bytes.ensures.judged known).0 in
-    let kept : IsKept input cart old new bytes (number_of site) = (
+    let kept : KeepsInput input cart old new bytes (site_number site) = (
       are,
       λ told. (let told_mid : IsTrue mid.tells = rw c.in_ok-site.ensures.disk_tells told in
-          kept_behind old mid new cart (number_of site) bytes site (c.in_ok-site.ensures.quiet told) (c.in_ok-site.ensures.judged told)
+          kept_behind old mid new cart (site_number site) bytes site (c.in_ok-site.ensures.quiet told) (c.in_ok-site.ensures.judged told)
           (c.in_ok-store_file.ensures.stored told_mid)),
     ) in
-    (bytes, (number_of site, kept))
+    (bytes, (site_number site, kept))
 
 pub returns-clause-moments : goal.returns-clause-moments
 returns-clause-moments g c = λ told.

@@ -1,9 +1,9 @@
 use Rattle.std.proofs.Common.{subst, sym, map}
 use Rattle.std.specs.Prelude.{string_bytes}
 use Rattle.room_disk.specs.Disk.{Quiet}
-use Rattle.volume_store.specs.Writes.{file_of}
+use Rattle.volume_store.specs.Writes.{cart_file}
 use Rattle.room_top.specs.Stages.{JudgesRead}
-use Rattle.room_top.specs.Run.{JudgesCartridge, Prints, Gives, StoresFile, LeavesDisk, ForCommand}
+use Rattle.room_top.specs.Run.{JudgesCartridge, Prints, GetWrites, StoresFile, LeavesDisk, ForCommand}
 use Rattle.room_top.specs.declared.status.Status.{Status}
 use Rattle.room_top.proofs.run.run.Goals as goal
 
@@ -11,8 +11,8 @@ pub returns-clause-cartridge : goal.returns-clause-cartridge
 returns-clause-cartridge g c = λ told.
     let before = (g.D.Store.view c.args.disk.now).reads in
     let P : Status → Type 0 = λ status. ForCommand (map string_bytes c.args.words.now) status
-    (λ cart. JudgesCartridge (g.S.Source.view c.args.input.now) (before (file_of cart)) status)
-    (λ cart number. JudgesRead number (before (file_of cart)) status) in
+    (λ cart. JudgesCartridge (g.S.Source.view c.args.input.now) (before (cart_file cart)) status)
+    (λ cart number. JudgesRead number (before (cart_file cart)) status) in
     subst P (sym c.status_from-status.ensures) (c.obey.ensures.cartridge told)
 
 pub returns-clause-written : goal.returns-clause-written
@@ -23,7 +23,7 @@ returns-clause-written g c = λ told.
     let now = (g.W.Sink.view c.obey.new.out).written in
     let P : Status → Type 0 = λ status. ForCommand (map string_bytes c.args.words.now) status
     (λ cart. Prints (g.S.Source.view c.args.input.now) cart old new before now status)
-    (λ cart number. Gives old cart number before now status) in
+    (λ cart number. GetWrites old cart number before now status) in
     subst P (sym c.status_from-status.ensures) (c.obey.ensures.written told)
 
 pub returns-clause-stored : goal.returns-clause-stored

@@ -4,7 +4,7 @@ use Rattle.volume_block.specs.Region.{IsSealed}
 use Rattle.chunk_mux.specs.Packing.{pack}
 use Rattle.chunk_mux.proofs.Joining.{pack_joins, pack_count}
 use Rattle.room_top.specs.Raw.{JoinTo}
-use Rattle.room_top.specs.Put.{number_of, mark_of, volid_of}
+use Rattle.room_top.specs.Put.{site_number, site_mark, site_volid}
 use Rattle.room_top.proofs.PutRuns.{has_room, some_blocks}
 use Rattle.room_top.proofs.store.store_file.Goals as goal
 
@@ -34,10 +34,10 @@ returns-in-Ok-store_region-clause-stored g c = λ told site.
     c.push.ensures.blocks ∙ ap (λ (some : List (List ChunkText)). pack some number 1 0 bytes) c.in-Ok.ensures in
     let J : List (List ChunkText) → Type 0 = λ (some : List (List ChunkText)). JoinFrom number 1 0 (all_chunks some) bytes in
     let N : ℕ → Type 0 = λ (n : ℕ). JoinTo n blocks bytes in
-    let joins : JoinTo (number_of c.args.site.now) blocks bytes = subst N c.number-number.ensures (subst J (sym are) (pack_joins number 1 0 bytes)) in
+    let joins : JoinTo (site_number c.args.site.now) blocks bytes = subst N c.number-number.ensures (subst J (sym are) (pack_joins number 1 0 bytes)) in
     let V : ℕ → Type 0 = λ (v : ℕ). IsSealed v c.mark.result blocks c.seal-region.result.now in
-    let M : ℕ → Type 0 = λ (m : ℕ). IsSealed (volid_of c.args.site.now) m blocks c.seal-region.result.now in
-    let sealed : IsSealed (volid_of c.args.site.now) (mark_of c.args.site.now) blocks c.seal-region.result.now =
+    let M : ℕ → Type 0 = λ (m : ℕ). IsSealed (site_volid c.args.site.now) m blocks c.seal-region.result.now in
+    let sealed : IsSealed (site_volid c.args.site.now) (site_mark c.args.site.now) blocks c.seal-region.result.now =
     subst M c.mark.ensures (subst V c.volid.ensures c.seal-region.ensures.sealed) in
     (c.in-Ok-store_region.ensures.stored told blocks bytes sealed joins site, c.in-Ok-store_region.ensures.settled told)
 
@@ -50,10 +50,10 @@ returns-in-Ok-store_region-clause-moments g c = λ told site settled.
     c.push.ensures.blocks ∙ ap (λ (some : List (List ChunkText)). pack some number 1 0 bytes) c.in-Ok.ensures in
     let J : List (List ChunkText) → Type 0 = λ (some : List (List ChunkText)). JoinFrom number 1 0 (all_chunks some) bytes in
     let N : ℕ → Type 0 = λ (n : ℕ). JoinTo n blocks bytes in
-    let joins : JoinTo (number_of c.args.site.now) blocks bytes = subst N c.number-number.ensures (subst J (sym are) (pack_joins number 1 0 bytes)) in
+    let joins : JoinTo (site_number c.args.site.now) blocks bytes = subst N c.number-number.ensures (subst J (sym are) (pack_joins number 1 0 bytes)) in
     let V : ℕ → Type 0 = λ (v : ℕ). IsSealed v c.mark.result blocks c.seal-region.result.now in
-    let M : ℕ → Type 0 = λ (m : ℕ). IsSealed (volid_of c.args.site.now) m blocks c.seal-region.result.now in
-    let sealed : IsSealed (volid_of c.args.site.now) (mark_of c.args.site.now) blocks c.seal-region.result.now =
+    let M : ℕ → Type 0 = λ (m : ℕ). IsSealed (site_volid c.args.site.now) m blocks c.seal-region.result.now in
+    let sealed : IsSealed (site_volid c.args.site.now) (site_mark c.args.site.now) blocks c.seal-region.result.now =
     subst M c.mark.ensures (subst V c.volid.ensures c.seal-region.ensures.sealed) in
     c.in-Ok-store_region.ensures.moments told blocks bytes sealed joins site settled
 
@@ -66,9 +66,9 @@ returns-clause-moments g c = λ told site settled.
     c.push.ensures.blocks ∙ ap (λ (some : List (List ChunkText)). pack some number 1 0 bytes) c.in-Ok.ensures in
     let J : List (List ChunkText) → Type 0 = λ (some : List (List ChunkText)). JoinFrom number 1 0 (all_chunks some) bytes in
     let N : ℕ → Type 0 = λ (n : ℕ). JoinTo n blocks bytes in
-    let joins : JoinTo (number_of c.args.site.now) blocks bytes = subst N c.number-number.ensures (subst J (sym are) (pack_joins number 1 0 bytes)) in
+    let joins : JoinTo (site_number c.args.site.now) blocks bytes = subst N c.number-number.ensures (subst J (sym are) (pack_joins number 1 0 bytes)) in
     let V : ℕ → Type 0 = λ (v : ℕ). IsSealed v c.mark.result blocks c.seal-region.result.now in
-    let M : ℕ → Type 0 = λ (m : ℕ). IsSealed (volid_of c.args.site.now) m blocks c.seal-region.result.now in
-    let sealed : IsSealed (volid_of c.args.site.now) (mark_of c.args.site.now) blocks c.seal-region.result.now =
+    let M : ℕ → Type 0 = λ (m : ℕ). IsSealed (site_volid c.args.site.now) m blocks c.seal-region.result.now in
+    let sealed : IsSealed (site_volid c.args.site.now) (site_mark c.args.site.now) blocks c.seal-region.result.now =
     subst M c.mark.ensures (subst V c.volid.ensures c.seal-region.ensures.sealed) in
     c.in-Err.ensures.moments told blocks bytes sealed joins site settled

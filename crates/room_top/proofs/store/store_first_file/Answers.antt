@@ -2,14 +2,14 @@ use Rattle.std.proofs.Common.{[], List, ℕ, inl, inr}
 use Rattle.std.specs.Prelude.{IsTrue}
 use Rattle.room_disk.specs.Disk.{OnFile}
 use Rattle.room_disk.proofs.Runs.{on_file_weaker, on_file_then, leaves_then, leaves_weaker}
-use Rattle.volume_store.specs.Writes.{file_of, IsBeingLabelled, IsWholeOrAbsent}
+use Rattle.volume_store.specs.Writes.{cart_file, IsBeingLabelled, IsWholeOrAbsent}
 use Rattle.room_top.specs.Put.{IsFirstFile}
 use Rattle.room_top.proofs.store.store_first_file.Goals as goal
 
 pub returns-in_err-write_label-clause-moments : goal.returns-in_err-write_label-clause-moments
 returns-in_err-write_label-clause-moments g c = λ told blocks sealed settled.
     let label = c.args.label.now in
-    let file = file_of label.cart.0 in
+    let file = cart_file label.cart.0 in
     let old = g.D.Store.view c.args.disk.now in
     on_file_weaker file (IsBeingLabelled label (old.reads file)) (IsFirstFile label blocks (old.reads file)) old (g.D.Store.view c.write_label.new.store)
     (c.in_err-write_label.ensures.moments told settled) (λ bytes labelling. inl labelling)
@@ -22,7 +22,7 @@ returns-clause-stored g c = λ told blocks sealed.
 pub returns-clause-moments : goal.returns-clause-moments
 returns-clause-moments g c = λ told blocks sealed settled.
     let label = c.args.label.now in
-    let file = file_of label.cart.0 in
+    let file = cart_file label.cart.0 in
     let old = g.D.Store.view c.args.disk.now in
     let mid = g.D.Store.view c.write_label.new.store in
     let new = g.D.Store.view c.commit.new.store in

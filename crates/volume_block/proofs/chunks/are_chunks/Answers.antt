@@ -2,7 +2,7 @@ use Rattle.std.proofs.Common.{◌≡◌, ◌≢◌, ℕ, ◌++◌, ◌≤◌, Li
 use Rattle.std.proofs.lemmas.List.{take_rest, length-drop}
 use Rattle.volume_block.specs.Chunks.{ChunkText, IsChunk, chunk_text}
 use Rattle.volume_block.proofs.Splits.{one_more, no_chunks, no_chunks_in_none, all_chunks}
-use Rattle.volume_block.proofs.chunks.are_chunks.Invariants.{IsKept}
+use Rattle.volume_block.proofs.chunks.are_chunks.Invariants.{RestIsKept}
 use Rattle.volume_block.proofs.chunks.are_chunks.Goals as goal
 
 pub returns-in_default : goal.returns-in_default
@@ -16,7 +16,7 @@ pub loop-rest-preserved : goal.loop-rest-preserved
 loop-rest-preserved c =
     let rest = c.loop-rest.rest.now in
     let first = c.in-Some.ensures in
-    let Kept : List ℕ → Type 0 = λ (r : List ℕ). IsKept c.args.payload.now r in
+    let Kept : List ℕ → Type 0 = λ (r : List ℕ). RestIsKept c.args.payload.now r in
     subst Kept (sym (take_rest rest c.in-Some.size)) (record {
       split = one_more c.args.payload.now rest c.in-Some.size first.0 c.loop-rest.invariant.fits first.1 c.loop-rest.invariant.split;
       fits = omega (arith, length-drop c.in-Some.size rest, c.loop-rest.invariant.fits);

@@ -9,7 +9,7 @@ returns-clause-text c =
     let label = c.args.label.now in
     let count : length (take label.pool_length label.pool) ≡ label.pool_length = search rules in
     let long : 56 ≤ length c.args.into.now = omega (arith, c.requires.whole) in
-    c.seal.ensures
+    c.finish_block.ensures
     ∙ ap (λ (payload : List ℕ). block_text 76 label.volid.0 0 payload)
     (written 56 c.from.result c.args.into.now c.write_label_payload.new.payload (label_payload label) _ long (omega (arith, count, c.from.ensures)) c.write_label_payload.ensures)
 

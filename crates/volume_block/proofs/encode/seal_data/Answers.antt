@@ -9,7 +9,7 @@ returns-clause-holds c = λ chunks filled.
       of_volume = search rules;
       placed = search rules;
       allowed = filled.allowed;
-      text = c.seal.ensures ∙ ap (block_text 68 c.args.volid.0 c.args.number) filled.text;
+      text = c.finish_block.ensures ∙ ap (block_text 68 c.args.volid.0 c.args.number) filled.text;
     }
 
 pub returns-clause-valid : goal.returns-clause-valid

@@ -6,14 +6,14 @@ use Rattle.room_disk.specs.Crash.{Torn}
 use Rattle.room_disk.proofs.Runs.{on_file_weaker, on_file_then, leaves_then, leaves_weaker}
 use Rattle.volume_store.proofs.Labelling.{labelled_empty, closing_torn, cleared}
 use Rattle.volume_store.specs.Committed.{Committed}
-use Rattle.volume_store.specs.Writes.{file_of, labelled, without_files, IsOpening, IsBeingLabelled}
+use Rattle.volume_store.specs.Writes.{cart_file, labelled, without_files, IsOpening, IsBeingLabelled}
 use Rattle.volume_store.specs.Reads.{IsClosed}
 use Rattle.volume_store.proofs.label.write_label.Goals as goal
 
 pub returns-clause-empty : goal.returns-clause-empty
 returns-clause-empty g c = λ told.
     let label = c.args.label.now in
-    let file = file_of label.cart.0 in
+    let file = cart_file label.cart.0 in
     let mid = g.D.Store.view c.close_label.new.store in
     let new = g.D.Store.view c.open_label.new.store in
     let told_mid : IsTrue mid.tells = rw c.in_ok-close_label.ensures.tells told in
@@ -25,7 +25,7 @@ returns-clause-empty g c = λ told.
 pub returns-clause-moments : goal.returns-clause-moments
 returns-clause-moments g c = λ told settled.
     let label = c.args.label.now in
-    let file = file_of label.cart.0 in
+    let file = cart_file label.cart.0 in
     let old = g.D.Store.view c.args.store.now in
     let mid = g.D.Store.view c.close_label.new.store in
     let new = g.D.Store.view c.open_label.new.store in

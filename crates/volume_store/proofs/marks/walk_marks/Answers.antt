@@ -1,7 +1,7 @@
 use Rattle.std.proofs.Common.{◌≡◌, ◌*◌, ◌<◌, ◌≤◌, ◌^◌, ◌∙◌, List, ℕ, length, get_or, ap, subst, arith}
 use Rattle.std.specs.Prelude.{IsTrue}
 use Rattle.volume_store.specs.Committed.{block_at}
-use Rattle.volume_store.specs.Writes.{file_of}
+use Rattle.volume_store.specs.Writes.{cart_file}
 use Rattle.volume_store.specs.Reads.{FindsMark, IsBadMark, WalksOver, StopsAt}
 use Rattle.volume_store.specs.declared.marks.MarkPlace.TheVariants as places
 use Rattle.volume_store.proofs.Walking.{goes_on, ends_closed, ends_bad, ends_short, range_past, quiet_then}
@@ -9,7 +9,7 @@ use Rattle.volume_store.proofs.marks.walk_marks.Goals as goal
 
 pub returns-in-Closed-clause-walked : goal.returns-in-Closed-clause-walked
 returns-in-Closed-clause-walked g c = λ told.
-    let file = file_of c.args.cart.0 in
+    let file = cart_file c.args.cart.0 in
     let old = g.D.Store.view c.args.store.now in
     let start = g.D.Store.view c.len.new.self in
     let here = g.D.Store.view c.loop-walk.store in
@@ -27,7 +27,7 @@ returns-in-Closed-clause-walked g c = λ told.
 
 pub returns-in-Bad-clause-walked : goal.returns-in-Bad-clause-walked
 returns-in-Bad-clause-walked g c = λ told.
-    let file = file_of c.args.cart.0 in
+    let file = cart_file c.args.cart.0 in
     let old = g.D.Store.view c.args.store.now in
     let start = g.D.Store.view c.len.new.self in
     let here = g.D.Store.view c.loop-walk.store in
@@ -43,7 +43,7 @@ returns-in-Bad-clause-walked g c = λ told.
 
 pub loop-walk-preserved : goal.loop-walk-preserved
 loop-walk-preserved g c =
-    let file = file_of c.args.cart.0 in
+    let file = cart_file c.args.cart.0 in
     let start = g.D.Store.view c.len.new.self in
     let here = g.D.Store.view c.loop-walk.store in
     let new = g.D.Store.view c.read_mark.new.store in
@@ -66,7 +66,7 @@ loop-walk-preserved g c =
 
 pub returns-clause-walked : goal.returns-clause-walked
 returns-clause-walked g c = λ told.
-    let file = file_of c.args.cart.0 in
+    let file = cart_file c.args.cart.0 in
     let old = g.D.Store.view c.args.store.now in
     let start = g.D.Store.view c.len.new.self in
     let walk = c.loop-walk.walk in

@@ -27,13 +27,13 @@ returns c =
     let value : List (List ChunkText) = c.args.self.now in
     let inside = c.self.inside in
     let used : List ℕ = used_in inside in
-    let new : List (List ℕ) = c.seal_region.new.blocks in
+    let new : List (List ℕ) = c.make_region.new.blocks in
     let many : length value ≡ inside.begun = as_many inside value c.self.view_is c.self.invariant in
     let long : length used ≡ inside.begun = omega (arith, length-take inside.begun inside.used, c.self.invariant.places, c.self.invariant.counted) in
     let held : Hold value used (drop 1 c.deref_mut.result.now) =
     subst (λ (blocks : List (List ℕ)). Hold value used (drop 1 blocks)) (sym c.deref_mut.ensures.value)
     (stands inside value c.self.view_is c.self.invariant) in
-    let sealed = c.seal_region.ensures value held in
+    let sealed = c.make_region.ensures value held in
     let whole : (with_items inside.blocks new).items ≡ new = with_items_is inside.blocks new (omega arith) in (
       (
         refl,

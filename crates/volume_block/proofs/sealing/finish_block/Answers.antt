@@ -1,5 +1,5 @@
 use Rattle.volume_block.proofs.Whole.{sealed}
-use Rattle.volume_block.proofs.sealing.seal.Goals as goal
+use Rattle.volume_block.proofs.sealing.finish_block.Goals as goal
 
 pub returns : goal.returns
 returns c =

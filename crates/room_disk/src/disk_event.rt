@@ -2,7 +2,7 @@ use room_base::Items;
 
 /// A call that changed what a disk reads or what a crash may leave of it.
 #[derive(Debug, Drop)]
-pub enum Deed {
+pub enum DiskEvent {
     Written {
         file: u32,
         at: u64,

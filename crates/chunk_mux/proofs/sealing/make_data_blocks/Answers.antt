@@ -3,7 +3,7 @@ use Rattle.volume_block.specs.Layout.{block_text}
 use Rattle.chunk_mux.specs.Text.{used_text}
 use Rattle.chunk_mux.specs.Sealing.{seal_first}
 use Rattle.chunk_mux.proofs.SealedBlocks.{unsealed, sealed_more}
-use Rattle.chunk_mux.proofs.sealing.seal_blocks.Goals as goal
+use Rattle.chunk_mux.proofs.sealing.make_data_blocks.Goals as goal
 
 pub loop-i-preserved : goal.loop-i-preserved
 loop-i-preserved c =
