@@ -3,4 +3,5 @@ pub mod Faults
 pub mod Lending
 pub mod Numbers
 pub mod Outside
+pub mod Refusals
 pub mod Text

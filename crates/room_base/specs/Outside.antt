@@ -1,5 +1,6 @@
 -- What is told of a source, a sink and a clock, and what each call does where it is told.
 use Rattle.std.specs.Prelude.{◌≡◌, ℕ, ◌≤◌, ◌<◌, Bool, IsTrue, List, [], ◌∷◌, ◌++◌, length, take, drop, Result, Ok, Err}
+use Rattle.room_base.specs.Faults.{HasCause}
 use Rattle.room_base.specs.declared.numbers.Moment.{Moment}
 use Rattle.room_base.specs.declared.fault.Failed.{Failed}
 
@@ -52,6 +53,12 @@ Puts old new piece (Err _) = AddsFront old new piece
 abbrev pub Writes : {T : Type 0} → List ℕ → List ℕ → List ℕ → Result T Failed → Type 0
 Writes old new piece (Ok _) = new ≡ old ++ piece
 Writes old new piece (Err _) = AddsFront old new piece
+
+-- a writing of the whole text: no count of faults falls, and where it failed the count rose
+pub record WritesText {T : Type 0} (text : List ℕ) (old new : SinkView) (answer : Result T Failed) : Type 0 where
+  pub cause : HasCause old.faults new.faults answer
+  pub tells : new.tells ≡ old.tells
+  pub written : Told old.tells (Writes old.written new.written text answer)
 
 -- the moments after the first was answered: the last one stays
 abbrev pub later_moments : List Moment → List Moment

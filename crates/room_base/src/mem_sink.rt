@@ -72,6 +72,10 @@ impl Sink for MemSink {
 
     ghost puts_alone = { λ _ _. ⊤ };
 
+    ghost puts_none = { λ _. tt };
+
+    ghost puts_then = { λ _ _ _ _ _. tt };
+
     fn put(&mut self, bytes: &[u8]) -> Result<u64, Failed>
         ensures whole { IfOk result (λ count. count ≡ length bytes.now) }
         ensures cause { HasCause self.old.faults self.new.faults result }

@@ -58,6 +58,10 @@ impl Source for MemSource {
 
     ghost takes_alone = { λ _ _. ⊤ };
 
+    ghost takes_none = { λ _. tt };
+
+    ghost takes_then = { λ _ _ _ _ _. tt };
+
     fn take(&mut self, into: &mut [u8]) -> Result<u64, Failed>
         ensures within { IfOk result (λ count. count ≤ length into.old) }
         ensures cause { HasCause self.old.faults self.new.faults result }

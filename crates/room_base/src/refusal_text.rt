@@ -1,117 +1,98 @@
-use crate::{Items, Refusal, Ssid};
-use std::fmt;
+//! Writes what is said of a refusal, without taking memory.
 
-/// A refusal's number, its name, and then ` field=value` for each of its fields.
-impl fmt::Display for Refusal {
-    fn fmt<W: fmt::Write>(&self, f: &mut fmt::Formatter<W>) -> fmt::Result {
-        let (number, name) = title(self);
-        write!(f, "{number} {name}")?;
-        write_fields(self, f)
-    }
+ghost use Rattle.std.specs.Fmt.{decimal};
+ghost use Rattle.std.specs.List.{flat_map};
+ghost use Rattle.hex.specs.Hex.{encode_lower};
+ghost use Rattle.room_base.specs.Outside.{WritesText};
+ghost use Rattle.room_base.specs.Refusals.{value_of, named_value, list_of_fields, field_text, value_text, ssids_text, ssid_behind, title_text, refusal_text};
+
+use crate::refusal_fields::{Field, FieldValue, Fields};
+use crate::{Failed, Refusal, Sink, Ssid, write_parts};
+use itoa::Buffer;
+
+/// Writes a refusal's number, its name, and ` field=value` for each of its fields, with no line end. A
+/// digest is written in hexadecimal digits, a list of sessions with commas between. After `Failed` a
+/// front of the text has been written.
+pub fn write_refusal<W: Sink>(sink: &mut W, refusal: &Refusal) -> Result<(), Failed>
+    ensures { WritesText (refusal_text refusal.now) (W.view sink.old) (W.view sink.new) result }
+{
+    write_title(sink, refusal)?;
+    write_fields(sink, &refusal.fields())
 }
 
-// The refusal's number and its name.
-fn title(refusal: &Refusal) -> (u8, &'static str) {
-    match refusal {
-        Refusal::Malformed { .. } => (1, "Malformed"),
-        Refusal::NoSuch { .. } => (2, "NoSuch"),
-        Refusal::Exists { .. } => (3, "Exists"),
-        Refusal::InUse { .. } => (4, "InUse"),
-        Refusal::Skipped { .. } => (5, "Skipped"),
-        Refusal::SetBusy { .. } => (6, "SetBusy"),
-        Refusal::NeedVolume { .. } => (7, "NeedVolume"),
-        Refusal::SessionsFull { .. } => (8, "SessionsFull"),
-        Refusal::NotOpen { .. } => (9, "NotOpen"),
-        Refusal::Gap { .. } => (10, "Gap"),
-        Refusal::PieceTooLong { .. } => (11, "PieceTooLong"),
-        Refusal::BadStream { .. } => (12, "BadStream"),
-        Refusal::NotEnded { .. } => (13, "NotEnded"),
-        Refusal::WrongLength { .. } => (14, "WrongLength"),
-        Refusal::WrongDigest { .. } => (15, "WrongDigest"),
-        Refusal::SlotEmpty { .. } => (16, "SlotEmpty"),
-        Refusal::DriveBusy { .. } => (17, "DriveBusy"),
-        Refusal::Unlabelled { .. } => (18, "Unlabelled"),
-        Refusal::Strange { .. } => (19, "Strange"),
-        Refusal::LabelPending { .. } => (20, "LabelPending"),
-        Refusal::Mounted { .. } => (21, "Mounted"),
-        Refusal::Needed { .. } => (22, "Needed"),
-        Refusal::Offsite { .. } => (23, "Offsite"),
-        Refusal::DamagedBlock { .. } => (24, "DamagedBlock"),
-        Refusal::Purged { .. } => (25, "Purged"),
-        Refusal::BaseGone { .. } => (26, "BaseGone"),
-        Refusal::HasCopy { .. } => (27, "HasCopy"),
-        Refusal::NoFile { .. } => (28, "NoFile"),
-        Refusal::TooMany { .. } => (29, "TooMany"),
-        Refusal::DeviceFault { .. } => (30, "DeviceFault"),
-        Refusal::JournalFault => (31, "JournalFault"),
-        Refusal::NoMemory => (32, "NoMemory"),
-    }
+fn write_title<W: Sink>(sink: &mut W, refusal: &Refusal) -> Result<(), Failed>
+    ensures { WritesText (title_text refusal.now) (W.view sink.old) (W.view sink.new) result }
+{
+    let mut digits = Buffer::new();
+    let number = digits.format(refusal.number());
+    write_parts(sink, &[number.as_bytes(), b" ", refusal.name().as_bytes()])
 }
 
-fn write_fields<W: fmt::Write>(refusal: &Refusal, f: &mut fmt::Formatter<W>) -> fmt::Result {
-    match refusal {
-        Refusal::Malformed { field } => write!(f, " field={}", field.as_str()),
-        Refusal::NoSuch { kind, name } => write_thing(kind.as_str(), name.as_str(), f),
-        Refusal::Exists { kind, name } => write_thing(kind.as_str(), name.as_str(), f),
-        Refusal::InUse { kind, name } => write_thing(kind.as_str(), name.as_str(), f),
-        Refusal::Skipped { day } => write!(f, " day={day}"),
-        Refusal::SetBusy { ssid } => write!(f, " ssid={}", ssid.0),
-        Refusal::NeedVolume { pool } => write!(f, " pool={}", pool.as_str()),
-        Refusal::SessionsFull { limit } => write!(f, " limit={limit}"),
-        Refusal::NotOpen { ssid } => write!(f, " ssid={}", ssid.0),
-        Refusal::Gap { expected } => write!(f, " expected={expected}"),
-        Refusal::PieceTooLong { limit } => write!(f, " limit={limit}"),
-        Refusal::BadStream { offset } => write!(f, " offset={offset}"),
-        Refusal::NotEnded { offset } => write!(f, " offset={offset}"),
-        Refusal::WrongLength { kept } => write!(f, " kept={kept}"),
-        Refusal::WrongDigest { kept } => write_digest(kept, f),
-        Refusal::SlotEmpty { slot } => write!(f, " slot={slot}"),
-        Refusal::DriveBusy { drive, volid } => write!(f, " drive={drive} volid={}", volid.0),
-        Refusal::Unlabelled { cart } => write!(f, " cart={}", cart.0),
-        Refusal::Strange { volid } => write!(f, " volid={}", volid.0),
-        Refusal::LabelPending { volid, found } => {
-            write!(f, " volid={} found={}", volid.0, found.0)
+fn write_fields<W: Sink>(sink: &mut W, fields: &Fields<'_>) -> Result<(), Failed>
+    ensures { WritesText (flat_map field_text (list_of_fields fields.now)) (W.view sink.old) (W.view sink.new) result }
+{
+    match fields {
+        Fields::None => write_parts(sink, &[]),
+        Fields::One(field) => write_field(sink, field),
+        Fields::Two(first, second) => {
+            write_field(sink, first)?;
+            write_field(sink, second)
         }
-        Refusal::Mounted { drive } => write!(f, " drive={drive}"),
-        Refusal::Needed { ssid } => write!(f, " ssid={}", ssid.0),
-        Refusal::Offsite { volid } => write!(f, " volid={}", volid.0),
-        Refusal::DamagedBlock { volid, block } => write!(f, " volid={} block={block}", volid.0),
-        Refusal::Purged { ssid } => write!(f, " ssid={}", ssid.0),
-        Refusal::BaseGone { ssid } => write!(f, " ssid={}", ssid.0),
-        Refusal::HasCopy { volid } => write!(f, " volid={}", volid.0),
-        Refusal::NoFile { path } => write!(f, " path={}", path.as_str()),
-        Refusal::TooMany { limit } => write!(f, " limit={limit}"),
-        Refusal::DeviceFault { file, closed } => write_device(*file, closed, f),
-        Refusal::JournalFault => Ok(()),
-        Refusal::NoMemory => Ok(()),
     }
 }
 
-fn write_thing<W: fmt::Write>(kind: &str, name: &str, f: &mut fmt::Formatter<W>) -> fmt::Result {
-    write!(f, " kind={kind} name={name}")
+fn write_field<W: Sink>(sink: &mut W, field: &Field<'_>) -> Result<(), Failed>
+    ensures { WritesText (field_text (named_value field.now)) (W.view sink.old) (W.view sink.new) result }
+{
+    write_parts(sink, &[b" ", field.name.as_bytes(), b"="])?;
+    write_value(sink, &field.value)
 }
 
-// The digest in 64 hexadecimal digits.
-fn write_digest<W: fmt::Write>(kept: &[u8; 32], f: &mut fmt::Formatter<W>) -> fmt::Result {
-    write!(f, " kept=")?;
-    for byte in kept {
-        write!(f, "{byte:02x}")?;
+fn write_value<W: Sink>(sink: &mut W, value: &FieldValue<'_>) -> Result<(), Failed>
+    ensures { WritesText (value_text (value_of value.now)) (W.view sink.old) (W.view sink.new) result }
+{
+    match value {
+        FieldValue::Number(number) => write_number(sink, *number),
+        FieldValue::Text(text) => write_parts(sink, &[text.as_bytes()]),
+        FieldValue::Digest(digest) => write_digest(sink, digest),
+        FieldValue::Ssids(ssids) => write_ssids(sink, ssids),
     }
-    Ok(())
 }
 
-// The file, and the sessions that were closed with commas between.
-fn write_device<W: fmt::Write>(
-    file: u32,
-    closed: &Items<Ssid>,
-    f: &mut fmt::Formatter<W>,
-) -> fmt::Result {
-    write!(f, " file={file} closed=")?;
-    for (place, ssid) in closed.as_slice().iter().enumerate() {
-        if place > 0 {
-            write!(f, ",")?;
+fn write_number<W: Sink>(sink: &mut W, number: u64) -> Result<(), Failed>
+    ensures { WritesText (decimal number) (W.view sink.old) (W.view sink.new) result }
+{
+    let mut digits = Buffer::new();
+    write_parts(sink, &[digits.format(number).as_bytes()])
+}
+
+fn write_digest<W: Sink>(sink: &mut W, digest: &[u8; 32]) -> Result<(), Failed>
+    ensures { WritesText (encode_lower digest.now) (W.view sink.old) (W.view sink.new) result }
+{
+    let mut digits = [0; 64];
+    let _ = hex::encode_to_slice(digest, &mut digits);
+    write_parts(sink, &[&digits])
+}
+
+fn write_ssids<W: Sink>(sink: &mut W, ssids: &[Ssid]) -> Result<(), Failed>
+    ensures { WritesText (ssids_text ssids.now) (W.view sink.old) (W.view sink.new) result }
+{
+    match ssids {
+        [] => write_parts(sink, &[]),
+        [first, others @ ..] => {
+            write_number(sink, first.0)?;
+            write_other_ssids(sink, others)
         }
-        write!(f, "{}", ssid.0)?;
+    }
+}
+
+// Writes a comma and a number for each.
+fn write_other_ssids<W: Sink>(sink: &mut W, ssids: &[Ssid]) -> Result<(), Failed>
+    ensures { WritesText (flat_map ssid_behind ssids.now) (W.view sink.old) (W.view sink.new) result }
+{
+    for ssid in ssids {
+        let mut digits = Buffer::new();
+        write_parts(sink, &[b",", digits.format(ssid.0).as_bytes()])?;
     }
     Ok(())
 }

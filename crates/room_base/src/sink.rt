@@ -1,6 +1,7 @@
 ghost use Rattle.std.specs.Prelude.{◌≡◌, ◌≤◌, ◌<◌, length, IfOk};
+ghost use Rattle.std.specs.List.{flat_map};
 ghost use Rattle.room_base.specs.Faults.{HasCause};
-ghost use Rattle.room_base.specs.Outside.{SinkView, Told, Puts, Writes};
+ghost use Rattle.room_base.specs.Outside.{SinkView, Told, Puts, Writes, WritesText};
 
 use crate::Failed;
 
@@ -23,6 +24,13 @@ pub trait Sink {
         ensures added { Told (view self.old).tells
             (Puts (view self.old).written (view self.new).written bytes.now result) }
         ensures alone { puts_alone self.old self.new };
+
+    /// Where nothing was put the rest of the object stays.
+    ghost puts_none: { (sink : Self) → puts_alone sink sink };
+
+    /// One call behind another leaves no more than one call.
+    ghost puts_then: { (before between now : Self) → puts_alone before between
+        → puts_alone between now → puts_alone before now };
 }
 
 #[tactic(auto, using(crate::proofs::Writing::more_written, crate::proofs::Writing::front_added))]
@@ -32,11 +40,25 @@ pub fn write_all<W: Sink>(sink: &mut W, bytes: &[u8]) -> Result<(), Failed>
     ensures tells { (W.view sink.new).tells ≡ (W.view sink.old).tells }
     ensures written { Told (W.view sink.old).tells
         (Writes (W.view sink.old).written (W.view sink.new).written bytes.now result) }
+    ensures alone { W.puts_alone sink.old sink.new }
 {
     let mut done = 0;
     while done < bytes.len() {
         let (_, rest) = bytes.split_at(done);
         done += sink.put(rest)? as usize;
+    }
+    Ok(())
+}
+
+/// Writes the parts, one behind the other. After `Failed` a front of them has been written. Takes no
+/// memory.
+pub fn write_parts<W: Sink>(sink: &mut W, parts: &[&[u8]]) -> Result<(), Failed>
+    ensures written { WritesText (flat_map (λ part. part.now) parts.now)
+        (W.view sink.old) (W.view sink.new) result }
+    ensures alone { W.puts_alone sink.old sink.new }
+{
+    for part in parts {
+        write_all(sink, part)?;
     }
     Ok(())
 }

@@ -21,4 +21,11 @@ pub trait Source {
         ensures tells { (view self.new).tells ≡ (view self.old).tells }
         ensures moved { Told (view self.old).tells (TakesBytes (view self.old) (view self.new) into.new result) }
         ensures alone { takes_alone self.old self.new };
+
+    /// Where nothing was taken the rest of the object stays.
+    ghost takes_none: { (source : Self) → takes_alone source source };
+
+    /// One call behind another leaves no more than one call.
+    ghost takes_then: { (before between now : Self) → takes_alone before between
+        → takes_alone between now → takes_alone before now };
 }

@@ -28,6 +28,10 @@ impl<W: Write> Sink for StdSink<W> {
 
     ghost puts_alone = { λ _ _. ⊤ };
 
+    ghost puts_none = { λ _. tt };
+
+    ghost puts_then = { λ _ _ _ _ _. tt };
+
     fn put(&mut self, bytes: &[u8]) -> Result<u64, Failed> {
         if bytes.is_empty() {
             return Ok(0);

@@ -27,6 +27,10 @@ impl<R: Read> Source for StdSource<R> {
 
     ghost takes_alone = { λ _ _. ⊤ };
 
+    ghost takes_none = { λ _. tt };
+
+    ghost takes_then = { λ _ _ _ _ _. tt };
+
     fn take(&mut self, into: &mut [u8]) -> Result<u64, Failed> {
         let read = read_some(&mut self.reader, into);
         if read.is_err() {

@@ -12,3 +12,7 @@ returns-in_err-done-clause-written g c =
     let gained : AddsFront (g.W.Sink.view c.loop-done.sink).written (g.W.Sink.view c.put.new.self).written c.split_at.result.1.now
     = c.in_err-done.ensures.added (rw c.loop-done.invariant.2 told) in
     front_added _ _ _ _ _ (c.loop-done.invariant.3 told) (rw (← rest) gained))
+
+pub returns-in_err-done-clause-alone : goal.returns-in_err-done-clause-alone
+returns-in_err-done-clause-alone g c =
+    g.met.W.Sink.puts_then _ _ _ c.loop-done.invariant.4 c.in_err-done.ensures.alone

@@ -2,7 +2,7 @@ use Rattle.std.proofs.Common.{length, ◌-◌, ◌≡◌, ◌≤◌, ◌++◌, t
 use Rattle.room_base.specs.Outside.{Told}
 use Rattle.room_base.proofs.sink.write_all.Given as goal
 
--- a front of the piece was written, and no put has failed
+-- a front of the piece was written, no put has failed, and the rest of the object stays
 abbrev pub invariant-loop-done : goal.invariant-loop-done
 invariant-loop-done g l =
     (l.done ≤ length l.bytes)
@@ -10,6 +10,7 @@ invariant-loop-done g l =
     × ((g.W.Sink.view l.sink).tells ≡ (g.W.Sink.view l.initial.sink).tells)
     × Told (g.W.Sink.view l.initial.sink).tells
     ((g.W.Sink.view l.sink).written ≡ (g.W.Sink.view l.initial.sink).written ++ take l.done l.bytes)
+    × g.W.Sink.puts_alone l.initial.sink l.sink
 
 abbrev pub decreases-loop-done : goal.decreases-loop-done
 decreases-loop-done g l = length l.bytes - l.done
