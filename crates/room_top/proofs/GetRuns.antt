@@ -2,6 +2,7 @@
 use Rattle.std.proofs.Common.{◌≡◌, ℕ, suc, ◌+◌, ◌<◌, ◌≤◌, List, [], ◌∷◌, ◌++◌, length, map, take, drop, Some, None, Err, refl, sym, ap, subst, ◌∙◌, append_assoc, arith, inl, inr}
 use Rattle.std.proofs.lemmas.List.{append-nil, length-append, length-map, map-append}
 use Rattle.std.proofs.lemmas.Grind.{flat_map-append}
+use Rattle.room_base.specs.Outside.{ClockView}
 use Rattle.volume_block.specs.Chunks.{ChunkText, chunk_text, chunks_text, all_chunks, JoinFrom}
 use Rattle.volume_block.specs.Valid.{HoldsChunks, ValidBlock}
 use Rattle.volume_block.specs.Places.{SplitsAt, IsChunkPlace, FindsFirst}
@@ -240,15 +241,15 @@ joined_from ssid copy offset [] bytes are = are
 joined_from ssid copy offset (chunk ∷ chunks) bytes are =
     are.3.1 ∙ ap (λ (t : List ℕ). chunk.bytes ++ t) (joined_from ssid copy (offset + length chunk.bytes) chunks are.3.0 are.3.2)
 
-had_raw : (cart : ℕ) (before : List ℕ) (label : Label) (files : List CommittedFile) → HadFiles cart before label files → IsRaw label
-had_raw cart before label files (inl fresh) =
+had_raw : (clock : ClockView) (cart : ℕ) (before : List ℕ) (label : Label) (files : List CommittedFile) → HadFiles clock cart before label files → IsRaw label
+had_raw clock cart before label files (inl fresh) =
     let P : Label → Type 0 = IsRaw in
-    subst P (sym fresh.2.1) (omega arith)
-had_raw cart before label files (inr old) = old.1.0
+    subst P (sym fresh.2.2) (omega arith)
+had_raw clock cart before label files (inr old) = old.1.0
 
 -- the file that was put is given back
-pub one_more_gives : (cart number : ℕ) (bytes before after : List ℕ) → HasOneFileMore cart bytes before number after → GivesFile after number bytes
-one_more_gives cart number bytes before after more =
+pub one_more_gives : (clock : ClockView) (cart number : ℕ) (bytes before after : List ℕ) → HasOneFileMore clock cart bytes before number after → GivesFile after number bytes
+one_more_gives clock cart number bytes before after more =
     let blocks = more.holds.0 in (
       more.label,
       (
@@ -257,7 +258,7 @@ one_more_gives cart number bytes before after more =
           before = more.files;
           after = [];
           mark = more.end;
-          on = (had_raw cart before more.label more.files more.had, more.stands);
+          on = (had_raw clock cart before more.label more.files more.had, more.stands);
           counted = sym more.counted;
         },
         (blocks, more.holds.1, joined_from number 1 0 (all_chunks blocks) bytes more.holds.2),

@@ -2,5 +2,4 @@ pub mod GetRuns
 pub mod Numbers
 pub mod PutRuns
 pub mod RawLabel
-pub mod Reporting
 pub mod TakenInput

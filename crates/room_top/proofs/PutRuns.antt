@@ -1,7 +1,7 @@
 -- What storing a file on a raw cartridge leaves.
 use Rattle.std.proofs.Common.{◌≡◌, ◌∙◌, ◌+◌, ◌≤◌, ℕ, List, [], length, Err, refl, sym, subst, inl, inr, arith}
 use Rattle.std.proofs.lemmas.Grind.{div_ceil_times}
-use Rattle.room_base.specs.Outside.{SourceView}
+use Rattle.room_base.specs.Outside.{SourceView, ClockView}
 use Rattle.room_disk.specs.Disk.{DiskView, Settled, Quiet, Others, Leaves, OnFile}
 use Rattle.room_disk.proofs.Runs.{leaves_none, leaves_then, leaves_weaker, on_file_then, others_quiet, others_then}
 use Rattle.volume_store.proofs.Walking.{quiet_then}
@@ -10,7 +10,7 @@ use Rattle.volume_block.specs.declared.label.Label.{Label}
 use Rattle.volume_store.specs.Committed.{CommittedFile, Committed}
 use Rattle.volume_store.specs.Writes.{cart_file, added_file, with_file, without_files, IsWholeOrAbsent}
 use Rattle.room_top.specs.Raw.{raw_label, IsRawCartridge, JoinTo}
-use Rattle.room_top.specs.Put.{HasOneFileMore, IsOccupied, IsPut, IsFirstFile, IsSite, IsSiteFor, HasRoom, blocks_for}
+use Rattle.room_top.specs.Put.{HasOneFileMore, IsNewLabel, IsOccupied, IsPut, IsFirstFile, IsSite, IsSiteFor, HasRoom, blocks_for}
 use Rattle.room_top.specs.Run.{AreInput, TouchesCartridge, LeavesDisk}
 use Rattle.room_top.specs.Stages.{StoreCause, Stores}
 use Rattle.room_top.specs.declared.status.Status.{Status}
@@ -19,9 +19,9 @@ use Rattle.room_top.specs.declared.site.Site.{Site}
 use Rattle.room_top.specs.declared.site.Site.TheVariants as sites
 
 -- a cartridge without a label gets the one file that these blocks are
-pub first_gains : (cart : ℕ) (bytes before disk : List ℕ) (label : Label) (blocks : List (List ChunkText)) → JoinTo 1 blocks bytes
-    → ¬ (IsOccupied before) → (made : ℕ) × (label ≡ raw_label cart made) → Committed disk (with_file label [] 1 blocks) → HasOneFileMore cart bytes before 1 disk
-first_gains cart bytes before disk label blocks joined free named stored = record {
+pub first_is_one_more : (clock : ClockView) (cart : ℕ) (bytes before disk : List ℕ) (label : Label) (blocks : List (List ChunkText)) → JoinTo 1 blocks bytes
+    → ¬ (IsOccupied before) → IsNewLabel clock cart label → Committed disk (with_file label [] 1 blocks) → HasOneFileMore clock cart bytes before 1 disk
+first_is_one_more clock cart bytes before disk label blocks joined free named stored = record {
   label = label;
   files = [];
   file = added_file 1 blocks;
@@ -33,10 +33,10 @@ first_gains cart bytes before disk label blocks joined free named stored = recor
 }
 
 -- a raw cartridge gets one file more
-pub next_gains : (cart mark number : ℕ) (bytes before disk : List ℕ) (label : Label) (files : List CommittedFile) (blocks : List (List ChunkText))
+pub next_is_one_more : (clock : ClockView) (cart mark number : ℕ) (bytes before disk : List ℕ) (label : Label) (files : List CommittedFile) (blocks : List (List ChunkText))
     → JoinTo number blocks bytes → IsRawCartridge before label files mark → number ≡ length files + 1
-    → Committed disk (with_file label files mark blocks) → HasOneFileMore cart bytes before number disk
-next_gains cart mark number bytes before disk label files blocks joined had counted stored = record {
+    → Committed disk (with_file label files mark blocks) → HasOneFileMore clock cart bytes before number disk
+next_is_one_more clock cart mark number bytes before disk label files blocks joined had counted stored = record {
   label = label;
   files = files;
   file = added_file mark blocks;
@@ -47,23 +47,22 @@ next_gains cart mark number bytes before disk label files blocks joined had coun
   holds = (blocks, refl, joined);
 }
 
-pub first_is_put : (cart : ℕ) (bytes before disk : List ℕ) (label : Label) (blocks : List (List ChunkText)) → JoinTo 1 blocks bytes
-    → ¬ (IsOccupied before) → (made : ℕ) × (label ≡ raw_label cart made) → IsFirstFile label blocks before disk → IsPut cart bytes before disk
-first_is_put cart bytes before disk label blocks joined free named (inl (inl kept)) = inl kept
-first_is_put cart bytes before disk label blocks joined free named (inl (inr (inl closed))) = inr (inr (inl (free, inl closed)))
-first_is_put cart bytes before disk label blocks joined free named (inl (inr (inr empty))) =
-    let P : Label → Type 0 = λ one. Committed disk (without_files one) in
-    inr (inr (inl (free, inr (named.0, subst P named.1 empty))))
-first_is_put cart bytes before disk label blocks joined free named (inr whole) =
-    inr (inr (inr (1, first_gains cart bytes before disk label blocks joined free named whole)))
+pub first_is_put : (clock : ClockView) (cart : ℕ) (bytes before disk : List ℕ) (label : Label) (blocks : List (List ChunkText)) → JoinTo 1 blocks bytes
+    → ¬ (IsOccupied before) → IsNewLabel clock cart label → IsFirstFile label blocks before disk → IsPut clock cart bytes before disk
+first_is_put clock cart bytes before disk label blocks joined free named (inl (inl kept)) = inl kept
+first_is_put clock cart bytes before disk label blocks joined free named (inl (inr (inl closed))) = inr (inr (inl (free, inl closed)))
+first_is_put clock cart bytes before disk label blocks joined free named (inl (inr (inr empty))) =
+    inr (inr (inl (free, inr (label, named, empty))))
+first_is_put clock cart bytes before disk label blocks joined free named (inr whole) =
+    inr (inr (inr (1, first_is_one_more clock cart bytes before disk label blocks joined free named whole)))
 
-pub next_is_put : (cart mark number : ℕ) (bytes before disk : List ℕ) (label : Label) (files : List CommittedFile) (blocks : List (List ChunkText))
+pub next_is_put : (clock : ClockView) (cart mark number : ℕ) (bytes before disk : List ℕ) (label : Label) (files : List CommittedFile) (blocks : List (List ChunkText))
     → JoinTo number blocks bytes → IsRawCartridge before label files mark → number ≡ length files + 1
-    → IsWholeOrAbsent label files mark blocks disk → IsPut cart bytes before disk
-next_is_put cart mark number bytes before disk label files blocks joined had counted (inl absent) =
+    → IsWholeOrAbsent label files mark blocks disk → IsPut clock cart bytes before disk
+next_is_put clock cart mark number bytes before disk label files blocks joined had counted (inl absent) =
     inr (inl (label, (files, (mark, had, absent))))
-next_is_put cart mark number bytes before disk label files blocks joined had counted (inr whole) =
-    inr (inr (inr (number, next_gains cart mark number bytes before disk label files blocks joined had counted whole)))
+next_is_put clock cart mark number bytes before disk label files blocks joined had counted (inr whole) =
+    inr (inr (inr (number, next_is_one_more clock cart mark number bytes before disk label files blocks joined had counted whole)))
 
 -- what was settled stays so where nothing is written
 pub settled_quiet : (old new : DiskView) (file : ℕ) → Quiet old new → Settled old file → Settled new file
@@ -81,16 +80,16 @@ some_blocks size some = omega (arith, (div_ceil_times size 4016 (omega arith)).0
 -- ---- behind calls that only read
 
 -- storing a file behind calls that add no image
-pub touches : (input : SourceView) (old mid new : DiskView) (cart : ℕ) (bytes : List ℕ) (site : Site) → AreInput input bytes → Quiet old mid
-    → Settled mid (cart_file cart) → IsSite cart (old.reads (cart_file cart)) site → Others (cart_file cart) mid new
-    → (IsSite cart (mid.reads (cart_file cart)) site → Settled mid (cart_file cart)
-    → Leaves mid new (OnFile (cart_file cart) (IsPut cart bytes (mid.reads (cart_file cart))) mid))
-    → TouchesCartridge input cart old new
-touches input old mid new cart bytes site are quiet settled at others run =
+pub touches : (input : SourceView) (clock : ClockView) (old mid new : DiskView) (cart : ℕ) (bytes : List ℕ) (site : Site) → AreInput input bytes → Quiet old mid
+    → Settled mid (cart_file cart) → IsSite clock cart (old.reads (cart_file cart)) site → Others (cart_file cart) mid new
+    → (IsSite clock cart (mid.reads (cart_file cart)) site → Settled mid (cart_file cart)
+    → Leaves mid new (OnFile (cart_file cart) (IsPut clock cart bytes (mid.reads (cart_file cart))) mid))
+    → TouchesCartridge input clock cart old new
+touches input clock old mid new cart bytes site are quiet settled at others run =
     let file = cart_file cart in
-    let At : List ℕ → Type 0 = λ (disk : List ℕ). IsSite cart disk site in
-    let P : List ℕ → Type 0 = IsPut cart bytes (mid.reads file) in
-    let Q : List ℕ → Type 0 = IsPut cart bytes (old.reads file) in (
+    let At : List ℕ → Type 0 = λ (disk : List ℕ). IsSite clock cart disk site in
+    let P : List ℕ → Type 0 = IsPut clock cart bytes (mid.reads file) in
+    let Q : List ℕ → Type 0 = IsPut clock cart bytes (old.reads file) in (
       others_then file old mid new (others_quiet file old mid quiet) others,
       (
         bytes,
@@ -98,47 +97,47 @@ touches input old mid new cart bytes site are quiet settled at others run =
         leaves_then old mid new (OnFile file Q old) (leaves_none old mid (OnFile file Q old) quiet)
             (leaves_weaker mid new (OnFile file P mid) (OnFile file Q old) (run (subst At (sym (quiet.reads file)) at) settled)
             (on_file_then file P Q old mid (others_quiet file old mid quiet)
-            (λ disk put. let Before : List ℕ → Type 0 = λ (before : List ℕ). IsPut cart bytes before disk in subst Before (quiet.reads file) put))),
+            (λ disk put. let Before : List ℕ → Type 0 = λ (before : List ℕ). IsPut clock cart bytes before disk in subst Before (quiet.reads file) put))),
       ),
     )
 
 -- where nothing was written the cartridge is untouched
-pub untouched : (input : SourceView) (old new : DiskView) (cart : ℕ) (bytes : List ℕ) → AreInput input bytes → Quiet old new → TouchesCartridge input cart old new
-untouched input old new cart bytes are quiet =
-    (others_quiet (cart_file cart) old new quiet, (bytes, are, leaves_none old new (OnFile (cart_file cart) (IsPut cart bytes (old.reads (cart_file cart))) old) quiet))
+pub untouched : (input : SourceView) (clock : ClockView) (old new : DiskView) (cart : ℕ) (bytes : List ℕ) → AreInput input bytes → Quiet old new → TouchesCartridge input clock cart old new
+untouched input clock old new cart bytes are quiet =
+    (others_quiet (cart_file cart) old new quiet, (bytes, are, leaves_none old new (OnFile (cart_file cart) (IsPut clock cart bytes (old.reads (cart_file cart))) old) quiet))
 
 -- the file that was stored behind calls that add no image
-pub kept_behind : (old mid new : DiskView) (cart number : ℕ) (bytes : List ℕ) (site : Site) → Quiet old mid → IsSite cart (old.reads (cart_file cart)) site
-    → (IsSite cart (mid.reads (cart_file cart)) site → HasOneFileMore cart bytes (mid.reads (cart_file cart)) number (new.reads (cart_file cart)) × Settled new (cart_file cart))
-    → HasOneFileMore cart bytes (old.reads (cart_file cart)) number (new.reads (cart_file cart)) × Settled new (cart_file cart)
-kept_behind old mid new cart number bytes site quiet at stored =
+pub kept_behind : (clock : ClockView) (old mid new : DiskView) (cart number : ℕ) (bytes : List ℕ) (site : Site) → Quiet old mid → IsSite clock cart (old.reads (cart_file cart)) site
+    → (IsSite clock cart (mid.reads (cart_file cart)) site → HasOneFileMore clock cart bytes (mid.reads (cart_file cart)) number (new.reads (cart_file cart)) × Settled new (cart_file cart))
+    → HasOneFileMore clock cart bytes (old.reads (cart_file cart)) number (new.reads (cart_file cart)) × Settled new (cart_file cart)
+kept_behind clock old mid new cart number bytes site quiet at stored =
     let file = cart_file cart in
-    let At : List ℕ → Type 0 = λ (disk : List ℕ). IsSite cart disk site in
+    let At : List ℕ → Type 0 = λ (disk : List ℕ). IsSite clock cart disk site in
     let made = stored (subst At (sym (quiet.reads file)) at) in
-    let Before : List ℕ → Type 0 = λ (before : List ℕ). HasOneFileMore cart bytes before number (new.reads file) in
+    let Before : List ℕ → Type 0 = λ (before : List ℕ). HasOneFileMore clock cart bytes before number (new.reads file) in
     (subst Before (quiet.reads file) made.0, made.1)
 
 -- what each status leaves, where nothing was written
-pub leaves_quiet_disk : (input : SourceView) (cart : ℕ) (old new : DiskView) (answer : Status) → Quiet old new → TouchesCartridge input cart old new
-    → LeavesDisk input cart old new answer
-leaves_quiet_disk input cart old new status.Done quiet touched = touched
-leaves_quiet_disk input cart old new (status.Usage word) quiet touched = quiet
-leaves_quiet_disk input cart old new status.Memory quiet touched = quiet
-leaves_quiet_disk input cart old new status.ReadFault quiet touched = quiet
-leaves_quiet_disk input cart old new status.WriteFault quiet touched = touched
-leaves_quiet_disk input cart old new status.DiskFault quiet touched = touched
-leaves_quiet_disk input cart old new status.ClockFault quiet touched = quiet
-leaves_quiet_disk input cart old new (status.Refused refusal) quiet touched = quiet
+pub leaves_quiet_disk : (input : SourceView) (clock : ClockView) (cart : ℕ) (old new : DiskView) (answer : Status) → Quiet old new → TouchesCartridge input clock cart old new
+    → LeavesDisk input clock cart old new answer
+leaves_quiet_disk input clock cart old new status.Done quiet touched = touched
+leaves_quiet_disk input clock cart old new (status.Usage word) quiet touched = quiet
+leaves_quiet_disk input clock cart old new status.Memory quiet touched = quiet
+leaves_quiet_disk input clock cart old new status.ReadFault quiet touched = quiet
+leaves_quiet_disk input clock cart old new status.WriteFault quiet touched = touched
+leaves_quiet_disk input clock cart old new status.DiskFault quiet touched = touched
+leaves_quiet_disk input clock cart old new status.ClockFault quiet touched = quiet
+leaves_quiet_disk input clock cart old new (status.Refused refusal) quiet touched = quiet
 
 -- what a fault of storing leaves
-pub leaves_stored : (input : SourceView) (cart number before now : ℕ) (old mid new : DiskView) (bytes : List ℕ) (fault : Status) → Quiet old mid
-    → StoreCause before now (Err fault) → Stores (cart_file cart) cart bytes number mid new (Err fault) → TouchesCartridge input cart old new
-    → LeavesDisk input cart old new fault
-leaves_stored input cart number before now old mid new bytes status.Done quiet cause stored touched = touched
-leaves_stored input cart number before now old mid new bytes (status.Usage word) quiet cause stored touched = absurd cause
-leaves_stored input cart number before now old mid new bytes status.Memory quiet cause stored touched = quiet_then old mid new quiet stored
-leaves_stored input cart number before now old mid new bytes status.ReadFault quiet cause stored touched = absurd cause
-leaves_stored input cart number before now old mid new bytes status.WriteFault quiet cause stored touched = touched
-leaves_stored input cart number before now old mid new bytes status.DiskFault quiet cause stored touched = touched
-leaves_stored input cart number before now old mid new bytes status.ClockFault quiet cause stored touched = absurd cause
-leaves_stored input cart number before now old mid new bytes (status.Refused refusal) quiet cause stored touched = absurd cause
+pub leaves_stored : (input : SourceView) (clock : ClockView) (cart number before now : ℕ) (old mid new : DiskView) (bytes : List ℕ) (fault : Status) → Quiet old mid
+    → StoreCause before now (Err fault) → Stores (cart_file cart) clock cart bytes number mid new (Err fault) → TouchesCartridge input clock cart old new
+    → LeavesDisk input clock cart old new fault
+leaves_stored input clock cart number before now old mid new bytes status.Done quiet cause stored touched = touched
+leaves_stored input clock cart number before now old mid new bytes (status.Usage word) quiet cause stored touched = absurd cause
+leaves_stored input clock cart number before now old mid new bytes status.Memory quiet cause stored touched = quiet_then old mid new quiet stored
+leaves_stored input clock cart number before now old mid new bytes status.ReadFault quiet cause stored touched = absurd cause
+leaves_stored input clock cart number before now old mid new bytes status.WriteFault quiet cause stored touched = touched
+leaves_stored input clock cart number before now old mid new bytes status.DiskFault quiet cause stored touched = touched
+leaves_stored input clock cart number before now old mid new bytes status.ClockFault quiet cause stored touched = absurd cause
+leaves_stored input clock cart number before now old mid new bytes (status.Refused refusal) quiet cause stored touched = absurd cause

@@ -1,7 +1,10 @@
 -- What `put` answers and leaves.
-use Rattle.std.specs.Prelude.{◌≡◌, ◌⊎◌, ℕ, ◌+◌, ◌≤◌, ◌<◌, List, [], ◌∷◌, ◌++◌, length, codes, slice_index}
+use Rattle.std.specs.Prelude.{◌≡◌, ◌⊎◌, ℕ, ◌+◌, ◌≤◌, ◌<◌, List, [], ◌∷◌, ◌++◌, length, min, codes, slice_index}
 use Rattle.std.specs.Fmt.{decimal}
 use Rattle.std.specs.Int.{div_ceil}
+use Rattle.room_base.specs.Numbers.{max_moment}
+use Rattle.room_base.specs.Outside.{ClockView, Told, IsFirstMoment}
+use Rattle.room_base.specs.declared.numbers.Moment.{Moment}
 use Rattle.volume_block.specs.Chunks.{ChunkText}
 use Rattle.volume_block.specs.Valid.{IsLabel}
 use Rattle.volume_block.specs.declared.label.Label.{Label}
@@ -23,19 +26,28 @@ blocks_for size = div_ceil size 4016
 abbrev pub IsOccupied : List ℕ → Type 0
 IsOccupied disk = slice_index disk 0 ≡ 0x4C
 
+-- a label gets the first moment that the clock has, or the greatest that is written
+abbrev pub IsMade : ClockView → ℕ → Type 0
+IsMade clock made =
+    Told clock.tells ((first : Moment) × IsFirstMoment clock.moments first × (made ≡ min first.0 max_moment))
+
+-- the label that a cartridge without one gets
+abbrev pub IsNewLabel : ClockView → ℕ → Label → Type 0
+IsNewLabel clock cart label = (made : ℕ) × IsMade clock made × (label ≡ raw_label cart made)
+
 -- What stood on the cartridge before a file came to it: no label, and it gets a raw one first; or a raw one and
 -- these files.
-abbrev pub HadFiles : ℕ → List ℕ → Label → List CommittedFile → Type 0
-HadFiles cart before label files = (¬ (IsOccupied before) × (files ≡ []) × ((made : ℕ) × (label ≡ raw_label cart made)))
+abbrev pub HadFiles : ClockView → ℕ → List ℕ → Label → List CommittedFile → Type 0
+HadFiles clock cart before label files = (¬ (IsOccupied before) × (files ≡ []) × IsNewLabel clock cart label)
     ⊎ ((mark : ℕ) × IsRawCartridge before label files mark)
 
 -- the cartridge has one file more than before, with this number, and it holds these bytes
-pub record HasOneFileMore (cart : ℕ) (bytes before : List ℕ) (number : ℕ) (after : List ℕ) : Type 0 where
+pub record HasOneFileMore (clock : ClockView) (cart : ℕ) (bytes before : List ℕ) (number : ℕ) (after : List ℕ) : Type 0 where
   pub label : Label
   pub files : List CommittedFile
   pub file : CommittedFile
   pub end : ℕ
-  pub had : HadFiles cart before label files
+  pub had : HadFiles clock cart before label files
   pub counted : number ≡ length files + 1
   pub stands : Committed after (Labelled label (files ++ file ∷ []) (Closed end))
   pub holds : FileHolds number file bytes
@@ -46,14 +58,14 @@ HasOldFiles before disk = (label : Label) × ((files : List CommittedFile) × ((
     × IsRawCartridge before label files mark × Committed disk (Labelled label files (Closed mark))))
 
 -- the cartridge has no file: it has no label, or a raw one alone
-abbrev pub HasNoFile : ℕ → List ℕ → Type 0
-HasNoFile cart disk = Committed disk Unlabelled ⊎ ((made : ℕ) × Committed disk (without_files (raw_label cart made)))
+abbrev pub HasNoFile : ClockView → ℕ → List ℕ → Type 0
+HasNoFile clock cart disk = Committed disk Unlabelled ⊎ ((label : Label) × IsNewLabel clock cart label × Committed disk (without_files label))
 
 -- What a crash may leave of the cartridge: what it was; the files that it had; no file, where it had none; or one
 -- file more, whole.
-abbrev pub IsPut : ℕ → List ℕ → List ℕ → List ℕ → Type 0
-IsPut cart bytes before disk = (disk ≡ before) ⊎ HasOldFiles before disk ⊎ (¬ (IsOccupied before) × HasNoFile cart disk)
-    ⊎ ((number : ℕ) × HasOneFileMore cart bytes before number disk)
+abbrev pub IsPut : ClockView → ℕ → List ℕ → List ℕ → List ℕ → Type 0
+IsPut clock cart bytes before disk = (disk ≡ before) ⊎ HasOldFiles before disk ⊎ (¬ (IsOccupied before) × HasNoFile clock cart disk)
+    ⊎ ((number : ℕ) × HasOneFileMore clock cart bytes before number disk)
 
 -- While a cartridge gets its first file it is as it was, has no label, or has the new label with no file or this one.
 abbrev pub IsFirstFile : Label → List (List ChunkText) → List ℕ → List ℕ → Type 0
@@ -67,9 +79,9 @@ kept_line size number cart = codes "kept " ++ (decimal size ++ (codes " bytes as
 -- ---- the site of the next file
 
 -- it is where the next file of the cartridge goes
-abbrev pub IsSite : ℕ → List ℕ → Site → Type 0
-IsSite cart before (sites.New label) = ¬ (IsOccupied before) × ((made : ℕ) × (label ≡ raw_label cart made))
-IsSite cart before (sites.Next volume number) =
+abbrev pub IsSite : ClockView → ℕ → List ℕ → Site → Type 0
+IsSite clock cart before (sites.New label) = ¬ (IsOccupied before) × IsNewLabel clock cart label
+IsSite clock cart before (sites.Next volume number) =
     (files : List CommittedFile) × IsRawCartridge before volume.label files volume.mark × (number ≡ length files + 1)
 
 -- there is room for so many bytes, and all numbers are in their ranges

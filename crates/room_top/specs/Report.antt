@@ -2,6 +2,8 @@
 use Rattle.std.specs.Prelude.{◌≡◌, ◌⊎◌, List, ◌++◌, codes, ℕ}
 use Rattle.room_base.specs.Faults.{Rose}
 use Rattle.room_base.specs.Outside.{SinkView, AddsFront}
+use Rattle.room_base.specs.Refusals.{refusal_text}
+use Rattle.room_base.specs.declared.refusal.Refusal.{Refusal}
 use Rattle.room_top.specs.declared.status.Status.{Status}
 use Rattle.room_top.specs.declared.status.Status.TheVariants as status
 
@@ -13,12 +15,9 @@ WritesLine line old new = (new.written ≡ old.written ++ line) ⊎ (Rose old.fa
 abbrev pub usage_line : List ℕ → List ℕ
 usage_line word = codes "room: usage " ++ (word ++ codes "\n")
 
--- the line of a refusal, which ends with this text
-abbrev pub refusal_line : List ℕ → List ℕ
-refusal_line text = codes "room: refused" ++ text
-
-abbrev pub ReportsRefusal : SinkView → SinkView → Type 0
-ReportsRefusal old new = (text : List ℕ) × WritesLine (refusal_line text) old new
+-- the line of a refusal
+abbrev pub refusal_line : Refusal → List ℕ
+refusal_line refusal = codes "room: refused " ++ (refusal_text refusal ++ codes "\n")
 
 -- what is written for a status: the line that names it, and nothing where all was done
 abbrev pub Reports : Status → SinkView → SinkView → Type 0
@@ -29,4 +28,4 @@ Reports status.ReadFault old new = WritesLine (codes "room: read fault\n") old n
 Reports status.WriteFault old new = WritesLine (codes "room: write fault\n") old new
 Reports status.DiskFault old new = WritesLine (codes "room: disk fault\n") old new
 Reports status.ClockFault old new = WritesLine (codes "room: clock fault\n") old new
-Reports (status.Refused refusal) old new = ReportsRefusal old new
+Reports (status.Refused refusal) old new = WritesLine (refusal_line refusal) old new

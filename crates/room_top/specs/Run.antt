@@ -1,8 +1,9 @@
 -- What the program answers, prints and leaves, status by status.
-use Rattle.std.specs.Prelude.{◌≡◌, ◌⊎◌, ℕ, ◌≤◌, ◌<◌, List, [], ◌++◌, length, codes, Result, Ok, Err}
+use Rattle.std.specs.Prelude.{◌≡◌, ◌⊎◌, ℕ, ◌≤◌, ◌<◌, List, [], ◌++◌, length, drop, codes, Result, Ok, Err}
 use Rattle.std.specs.Fmt.{decimal}
 use Rattle.room_base.specs.Faults.{Rose}
-use Rattle.room_base.specs.Outside.{SourceView, SinkView, ClockView, Told, AddsFront}
+use Rattle.room_base.specs.Outside.{SourceView, SinkView, ClockView, Told, AddsFront, later_moments}
+use Rattle.room_base.specs.declared.numbers.Moment.{Moment}
 use Rattle.room_base.specs.declared.refusal.Refusal.TheVariants as refusals
 use Rattle.room_disk.specs.Disk.{DiskView, Quiet, Others, Settled, Leaves, OnFile}
 use Rattle.volume_block.specs.declared.label.Label.{Label}
@@ -59,7 +60,7 @@ JudgesBytes had left status.WriteFault = HasSize had
 JudgesBytes had left status.DiskFault = HasSize had
 JudgesBytes had left status.ClockFault = HasSize had
 JudgesBytes had left (status.Refused (refusals.Malformed field)) = had ≡ []
-JudgesBytes had left (status.Refused (refusals.TooMany limit)) = 257024 < length had
+JudgesBytes had left (status.Refused (refusals.TooMany limit)) = (257024 < length had) × (left ≡ drop 257025 had)
 JudgesBytes had left (status.Refused other) = HasSize had
 JudgesBytes had left other = Unit {0}
 
@@ -75,35 +76,48 @@ JudgesCartridge input before (status.Refused (refusals.DamagedBlock volid block)
 JudgesCartridge input before (status.Refused (refusals.NeedVolume pool)) = (bytes : List ℕ) × AreInput input bytes × IsFull (length bytes) before
 JudgesCartridge input before other = Unit {0}
 
--- the input is a file of the cartridge, which has this number, and stays there at every crash
-abbrev pub KeepsInput : SourceView → ℕ → DiskView → DiskView → List ℕ → ℕ → Type 0
-KeepsInput input cart old new bytes number = AreInput input bytes × Told old.tells
-    (HasOneFileMore cart bytes (old.reads (cart_file cart)) number (new.reads (cart_file cart)) × Settled new (cart_file cart))
+-- the clock was asked once, for the label of a cartridge that has none, once the input was judged
+abbrev pub IsAsked : SourceView → DiskView → ℕ → List Moment → List Moment → Type 0
+IsAsked input disk cart before now = (now ≡ later_moments before)
+    × Told input.tells (HasSize input.left) × Told disk.tells (¬ (IsOccupied (disk.reads (cart_file cart))))
 
-abbrev pub StoresFile : SourceView → ℕ → DiskView → DiskView → Status → Type 0
-StoresFile input cart old new status.Done = (bytes : List ℕ) × ((number : ℕ) × KeepsInput input cart old new bytes number)
-StoresFile input cart old new status.WriteFault = (bytes : List ℕ) × ((number : ℕ) × KeepsInput input cart old new bytes number)
-StoresFile input cart old new other = Unit {0}
+-- what `put` makes of the clock's moments
+abbrev pub AsksClock : SourceView → DiskView → ℕ → List Moment → List Moment → Status → Type 0
+AsksClock input disk cart before now status.Done = (now ≡ before) ⊎ IsAsked input disk cart before now
+AsksClock input disk cart before now status.WriteFault = (now ≡ before) ⊎ IsAsked input disk cart before now
+AsksClock input disk cart before now status.DiskFault = (now ≡ before) ⊎ IsAsked input disk cart before now
+AsksClock input disk cart before now status.Memory = (now ≡ before) ⊎ IsAsked input disk cart before now
+AsksClock input disk cart before now other = now ≡ before
+
+-- the input is a file of the cartridge, which has this number, and stays there at every crash
+abbrev pub KeepsInput : SourceView → ClockView → ℕ → DiskView → DiskView → List ℕ → ℕ → Type 0
+KeepsInput input clock cart old new bytes number = AreInput input bytes × Told old.tells
+    (HasOneFileMore clock cart bytes (old.reads (cart_file cart)) number (new.reads (cart_file cart)) × Settled new (cart_file cart))
+
+abbrev pub StoresFile : SourceView → ClockView → ℕ → DiskView → DiskView → Status → Type 0
+StoresFile input clock cart old new status.Done = (bytes : List ℕ) × ((number : ℕ) × KeepsInput input clock cart old new bytes number)
+StoresFile input clock cart old new status.WriteFault = (bytes : List ℕ) × ((number : ℕ) × KeepsInput input clock cart old new bytes number)
+StoresFile input clock cart old new other = Unit {0}
 
 -- what is printed: the whole line with the file's number, a front of it, or nothing
-abbrev pub Prints : SourceView → ℕ → DiskView → DiskView → List ℕ → List ℕ → Status → Type 0
-Prints input cart old new before now status.Done = (bytes : List ℕ) × ((number : ℕ) × KeepsInput input cart old new bytes number
+abbrev pub Prints : SourceView → ClockView → ℕ → DiskView → DiskView → List ℕ → List ℕ → Status → Type 0
+Prints input clock cart old new before now status.Done = (bytes : List ℕ) × ((number : ℕ) × KeepsInput input clock cart old new bytes number
     × (now ≡ before ++ kept_line (length bytes) number cart))
-Prints input cart old new before now status.WriteFault = (bytes : List ℕ) × ((number : ℕ) × KeepsInput input cart old new bytes number
+Prints input clock cart old new before now status.WriteFault = (bytes : List ℕ) × ((number : ℕ) × KeepsInput input clock cart old new bytes number
     × AddsFront before now (kept_line (length bytes) number cart))
-Prints input cart old new before now other = now ≡ before
+Prints input clock cart old new before now other = now ≡ before
 
 -- At every moment a crash leaves the cartridge as `IsPut` says; each other file stays.
-abbrev pub TouchesCartridge : SourceView → ℕ → DiskView → DiskView → Type 0
-TouchesCartridge input cart old new = Others (cart_file cart) old new × ((bytes : List ℕ) × AreInput input bytes
-    × Leaves old new (OnFile (cart_file cart) (IsPut cart bytes (old.reads (cart_file cart))) old))
+abbrev pub TouchesCartridge : SourceView → ClockView → ℕ → DiskView → DiskView → Type 0
+TouchesCartridge input clock cart old new = Others (cart_file cart) old new × ((bytes : List ℕ) × AreInput input bytes
+    × Leaves old new (OnFile (cart_file cart) (IsPut clock cart bytes (old.reads (cart_file cart))) old))
 
 -- what `put` leaves of the disk: a refusal before the first write leaves it as it was
-abbrev pub LeavesDisk : SourceView → ℕ → DiskView → DiskView → Status → Type 0
-LeavesDisk input cart old new status.Done = TouchesCartridge input cart old new
-LeavesDisk input cart old new status.WriteFault = TouchesCartridge input cart old new
-LeavesDisk input cart old new status.DiskFault = TouchesCartridge input cart old new
-LeavesDisk input cart old new other = Quiet old new
+abbrev pub LeavesDisk : SourceView → ClockView → ℕ → DiskView → DiskView → Status → Type 0
+LeavesDisk input clock cart old new status.Done = TouchesCartridge input clock cart old new
+LeavesDisk input clock cart old new status.WriteFault = TouchesCartridge input clock cart old new
+LeavesDisk input clock cart old new status.DiskFault = TouchesCartridge input clock cart old new
+LeavesDisk input clock cart old new other = Quiet old new
 
 -- ---- get
 
@@ -150,3 +164,8 @@ abbrev pub UnlessRun : Status → Type 0 → Type 0
 UnlessRun (status.Usage word) P = P
 UnlessRun status.Memory P = P
 UnlessRun other P = Unit {0}
+
+-- where the words don't fit, everything stays as it was
+abbrev pub UnlessUsage : Status → Type 0 → Type 0
+UnlessUsage (status.Usage word) P = P
+UnlessUsage other P = Unit {0}

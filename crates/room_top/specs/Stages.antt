@@ -2,13 +2,15 @@
 use Rattle.std.specs.Prelude.{◌≡◌, ◌⊎◌, ℕ, ◌+◌, ◌≤◌, ◌<◌, ◌^◌, List, [], length, take, drop, codes, Result, Ok, Err}
 use Rattle.std.specs.Fmt.{decimal}
 use Rattle.room_base.specs.Faults.{Rose}
+use Rattle.room_base.specs.Outside.{ClockView, later_moments}
+use Rattle.room_base.specs.declared.numbers.Moment.{Moment}
 use Rattle.room_base.specs.declared.refusal.Refusal.TheVariants as refusals
 use Rattle.room_disk.specs.Disk.{DiskView, Quiet, Settled}
 use Rattle.volume_block.specs.declared.label.Label.{Label}
 use Rattle.volume_store.specs.Committed.{block_at, IsDataPlace, Damaged, CommittedFile, Committed, Unlabelled, HasLabel}
 use Rattle.volume_store.specs.declared.marks.FilePlace.{FilePlace}
 use Rattle.room_top.specs.Raw.{raw_label, IsRaw, HasBytes, IsFileOn, IsFirstDamaged, GivesFile, IsDamagedIn, LacksFile, IsDamagedAt, IsStrange}
-use Rattle.room_top.specs.Put.{HasOneFileMore, IsOccupied, blocks_for, IsSite, IsSiteFor, IsFull}
+use Rattle.room_top.specs.Put.{HasOneFileMore, IsNewLabel, IsOccupied, blocks_for, IsSite, IsSiteFor, IsFull}
 use Rattle.room_top.specs.declared.site.Site.{Site}
 use Rattle.room_top.specs.declared.site.Site.TheVariants as sites
 use Rattle.room_top.specs.declared.get.DataFault.{DataFault}
@@ -37,7 +39,8 @@ InputCause before now (Err other) = ⊥
 abbrev pub JudgesInput : {T : Type 0} → (T → List ℕ) → List ℕ → List ℕ → Result T Status → Type 0
 JudgesInput bytes_of left after (Ok bytes) = (bytes_of bytes ≡ left) × (after ≡ [])
 JudgesInput bytes_of left after (Err (status.Refused (refusals.Malformed field))) = left ≡ []
-JudgesInput bytes_of left after (Err (status.Refused (refusals.TooMany limit))) = 257024 < length left
+JudgesInput bytes_of left after (Err (status.Refused (refusals.TooMany limit))) =
+    (257024 < length left) × (after ≡ drop 257025 left)
 JudgesInput bytes_of left after (Err other) = Unit {0}
 
 -- ---- what is refused
@@ -75,13 +78,19 @@ SiteCause cart disk_before disk_now clock_before clock_now (Err (status.Refused 
 SiteCause cart disk_before disk_now clock_before clock_now (Err other) = ⊥
 
 -- what each answer says of the cartridge
-abbrev pub JudgesSite : ℕ → ℕ → List ℕ → Result Site Status → Type 0
-JudgesSite cart size before (Ok site) = IsSite cart before site
-JudgesSite cart size before (Err status.ClockFault) = ¬ (IsOccupied before)
-JudgesSite cart size before (Err (status.Refused (refusals.Exists kind name))) = (label : Label) × IsStrange before label
-JudgesSite cart size before (Err (status.Refused (refusals.DamagedBlock volid block))) = IsDamagedAt before volid.0 block
-JudgesSite cart size before (Err (status.Refused (refusals.NeedVolume pool))) = IsFull size before
-JudgesSite cart size before (Err other) = Unit {0}
+abbrev pub JudgesSite : ClockView → ℕ → ℕ → List ℕ → Result Site Status → Type 0
+JudgesSite clock cart size before (Ok site) = IsSite clock cart before site
+JudgesSite clock cart size before (Err status.ClockFault) = ¬ (IsOccupied before)
+JudgesSite clock cart size before (Err (status.Refused (refusals.Exists kind name))) = (label : Label) × IsStrange before label
+JudgesSite clock cart size before (Err (status.Refused (refusals.DamagedBlock volid block))) = IsDamagedAt before volid.0 block
+JudgesSite clock cart size before (Err (status.Refused (refusals.NeedVolume pool))) = IsFull size before
+JudgesSite clock cart size before (Err other) = Unit {0}
+
+-- the clock is asked where the cartridge gets a label
+abbrev pub SiteAsks : List Moment → List Moment → Result Site Status → Type 0
+SiteAsks before now (Ok (sites.New label)) = now ≡ later_moments before
+SiteAsks before now (Ok (sites.Next volume number)) = now ≡ before
+SiteAsks before now (Err other) = now ≡ before
 
 -- after an answer nothing is pending on the file
 abbrev pub SettlesSite : DiskView → ℕ → Result Site Status → Type 0
@@ -89,11 +98,11 @@ SettlesSite disk file (Ok site) = Settled disk file
 SettlesSite disk file (Err other) = Unit {0}
 
 -- the same of a cartridge that gets a label
-abbrev pub IsNewSite : ℕ → ℕ → ℕ → ℕ → Result Site Status → Type 0
-IsNewSite cart size before now (Ok (sites.New label)) = ((made : ℕ) × (label ≡ raw_label cart made)) × IsSiteFor cart size (sites.New label)
-IsNewSite cart size before now (Ok (sites.Next volume number)) = ⊥
-IsNewSite cart size before now (Err status.ClockFault) = Rose before now
-IsNewSite cart size before now (Err other) = ⊥
+abbrev pub IsNewSite : ClockView → ℕ → ℕ → ℕ → ℕ → Result Site Status → Type 0
+IsNewSite clock cart size before now (Ok (sites.New label)) = IsNewLabel clock cart label × IsSiteFor cart size (sites.New label)
+IsNewSite clock cart size before now (Ok (sites.Next volume number)) = ⊥
+IsNewSite clock cart size before now (Err status.ClockFault) = Rose before now
+IsNewSite clock cart size before now (Err other) = ⊥
 
 -- the same of a cartridge that has a label
 abbrev pub NextCause : ℕ → ℕ → ℕ → Result Site Status → Type 0
@@ -104,6 +113,12 @@ NextCause cart before now (Err (status.Refused (refusals.Exists kind name))) = (
 NextCause cart before now (Err (status.Refused (refusals.DamagedBlock volid block))) = Unit {0}
 NextCause cart before now (Err (status.Refused (refusals.NeedVolume pool))) = pool ≡ codes "Raw"
 NextCause cart before now (Err other) = ⊥
+
+-- a cartridge that has a label gets no new one
+abbrev pub NeverNew : Result Site Status → Type 0
+NeverNew (Ok (sites.New label)) = ⊥
+NeverNew (Ok (sites.Next volume number)) = Unit {0}
+NeverNew (Err other) = Unit {0}
 
 -- the same at a mark place behind so many files
 abbrev pub IsPlaceBehind : ℕ → Label → ℕ → ℕ → ℕ → Result Site Status → Type 0
@@ -125,10 +140,10 @@ StoreCause before now (Err status.DiskFault) = Rose before now
 StoreCause before now (Err other) = ⊥
 
 -- what each answer says of the disk: but for a fault of the disk, a failure leaves it as it was
-abbrev pub Stores : ℕ → ℕ → List ℕ → ℕ → DiskView → DiskView → Result (Unit {0}) Status → Type 0
-Stores file cart bytes number old new (Ok _) = HasOneFileMore cart bytes (old.reads file) number (new.reads file) × Settled new file
-Stores file cart bytes number old new (Err status.DiskFault) = Unit {0}
-Stores file cart bytes number old new (Err other) = Quiet old new
+abbrev pub Stores : ℕ → ClockView → ℕ → List ℕ → ℕ → DiskView → DiskView → Result (Unit {0}) Status → Type 0
+Stores file clock cart bytes number old new (Ok _) = HasOneFileMore clock cart bytes (old.reads file) number (new.reads file) × Settled new file
+Stores file clock cart bytes number old new (Err status.DiskFault) = Unit {0}
+Stores file clock cart bytes number old new (Err other) = Quiet old new
 
 -- ---- reading a file
 

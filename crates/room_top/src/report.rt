@@ -1,19 +1,19 @@
+//! Tells an operator why the program didn't do its work.
+
 ghost use Rattle.std.specs.Prelude.{◌≡◌, ◌≤◌};
-ghost use Rattle.room_base.specs.Faults.{HasCause};
-ghost use Rattle.room_base.specs.Outside.{Told, Writes};
-ghost use Rattle.room_top.specs.Report.{usage_line, refusal_line, WritesLine, ReportsRefusal, Reports};
+ghost use Rattle.room_base.specs.Outside.{Told, WritesText};
+ghost use Rattle.room_top.specs.Report.{usage_line, refusal_line, WritesLine, Reports};
 
 use crate::Status;
-use room_base::{Failed, Refusal, Sink, write_all};
-use std::alloc::Global;
+use room_base::{Failed, Refusal, Sink, write_all, write_parts, write_refusal};
 
 /// Writes the line that tells an operator why the program didn't do its work. Nothing is written for
-/// `Done`, and a fault of the sink changes nothing. Where memory is too short for the text of a refusal,
-/// the line names the status alone.
-pub fn report<E: Sink>(alloc: Global, err: &mut E, status: &Status)
+/// `Done`, and a fault of the sink changes nothing. Takes no memory.
+pub fn report<E: Sink>(err: &mut E, status: &Status)
     ensures later { (E.view err.old).faults ≤ (E.view err.new).faults }
     ensures tells { (E.view err.new).tells ≡ (E.view err.old).tells }
-    ensures reported { Told (E.view err.old).tells (Reports status.now (E.view err.old) (E.view err.new)) }
+    ensures reported { Told (E.view err.old).tells
+        (Reports status.now (E.view err.old) (E.view err.new)) }
 {
     match status {
         Status::Done => {}
@@ -23,7 +23,7 @@ pub fn report<E: Sink>(alloc: Global, err: &mut E, status: &Status)
         Status::WriteFault => write_line(err, b"room: write fault\n"),
         Status::DiskFault => write_line(err, b"room: disk fault\n"),
         Status::ClockFault => write_line(err, b"room: clock fault\n"),
-        Status::Refused(refusal) => report_refusal(alloc, err, refusal),
+        Status::Refused(refusal) => report_refusal(err, refusal),
     }
 }
 
@@ -31,7 +31,8 @@ pub fn report<E: Sink>(alloc: Global, err: &mut E, status: &Status)
 fn write_line<E: Sink>(err: &mut E, line: &[u8])
     ensures later { (E.view err.old).faults ≤ (E.view err.new).faults }
     ensures tells { (E.view err.new).tells ≡ (E.view err.old).tells }
-    ensures reported { Told (E.view err.old).tells (WritesLine line.now (E.view err.old) (E.view err.new)) }
+    ensures reported { Told (E.view err.old).tells
+        (WritesLine line.now (E.view err.old) (E.view err.new)) }
 {
     let _ = write_all(err, line);
 }
@@ -39,48 +40,25 @@ fn write_line<E: Sink>(err: &mut E, line: &[u8])
 fn report_usage<E: Sink>(err: &mut E, word: &[u8])
     ensures later { (E.view err.old).faults ≤ (E.view err.new).faults }
     ensures tells { (E.view err.new).tells ≡ (E.view err.old).tells }
-    ensures reported { Told (E.view err.old).tells (WritesLine (usage_line word.now) (E.view err.old) (E.view err.new)) }
+    ensures reported { Told (E.view err.old).tells
+        (WritesLine (usage_line word.now) (E.view err.old) (E.view err.new)) }
 {
-    let _ = write_usage(err, word);
+    let _ = write_parts(err, &[b"room: usage ", word, b"\n"]);
 }
 
-fn write_usage<E: Sink>(err: &mut E, word: &[u8]) -> Result<(), Failed>
-    ensures cause { HasCause (E.view err.old).faults (E.view err.new).faults result }
-    ensures tells { (E.view err.new).tells ≡ (E.view err.old).tells }
-    ensures written { Told (E.view err.old).tells
-        (Writes (E.view err.old).written (E.view err.new).written (usage_line word.now) result) }
-{
-    write_all(err, b"room: usage ")?;
-    write_all(err, word)?;
-    write_all(err, b"\n")
-}
-
-fn report_refusal<E: Sink>(alloc: Global, err: &mut E, refusal: &Refusal)
+fn report_refusal<E: Sink>(err: &mut E, refusal: &Refusal)
     ensures later { (E.view err.old).faults ≤ (E.view err.new).faults }
     ensures tells { (E.view err.new).tells ≡ (E.view err.old).tells }
-    ensures reported { Told (E.view err.old).tells (ReportsRefusal (E.view err.old) (E.view err.new)) }
+    ensures reported { Told (E.view err.old).tells
+        (WritesLine (refusal_line refusal.now) (E.view err.old) (E.view err.new)) }
 {
-    match format!(in alloc; " {refusal}\n") {
-        Ok(text) => end_refusal(err, text.as_bytes()),
-        Err(_) => end_refusal(err, b"\n"),
-    }
+    let _ = write_refusal_line(err, refusal);
 }
 
-// Writes the line of a refusal, which ends so.
-fn end_refusal<E: Sink>(err: &mut E, text: &[u8])
-    ensures later { (E.view err.old).faults ≤ (E.view err.new).faults }
-    ensures tells { (E.view err.new).tells ≡ (E.view err.old).tells }
-    ensures reported { Told (E.view err.old).tells (WritesLine (refusal_line text.now) (E.view err.old) (E.view err.new)) }
+fn write_refusal_line<E: Sink>(err: &mut E, refusal: &Refusal) -> Result<(), Failed>
+    ensures { WritesText (refusal_line refusal.now) (E.view err.old) (E.view err.new) result }
 {
-    let _ = write_refusal(err, text);
-}
-
-fn write_refusal<E: Sink>(err: &mut E, text: &[u8]) -> Result<(), Failed>
-    ensures cause { HasCause (E.view err.old).faults (E.view err.new).faults result }
-    ensures tells { (E.view err.new).tells ≡ (E.view err.old).tells }
-    ensures written { Told (E.view err.old).tells
-        (Writes (E.view err.old).written (E.view err.new).written (refusal_line text.now) result) }
-{
-    write_all(err, b"room: refused")?;
-    write_all(err, text)
+    write_parts(err, &[b"room: refused "])?;
+    write_refusal(err, refusal)?;
+    write_parts(err, &[b"\n"])
 }

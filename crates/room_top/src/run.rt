@@ -4,7 +4,7 @@ ghost use Rattle.room_disk.specs.Disk.{Quiet};
 ghost use Rattle.volume_store.specs.Writes.{cart_file};
 ghost use Rattle.room_top.specs.Stages.{JudgesRead};
 ghost use Rattle.room_top.specs.Report.{Reports};
-ghost use Rattle.room_top.specs.Run.{status_of, counts, Later, PutCause, GetCause, JudgesBytes, JudgesCartridge, Prints, GetWrites, StoresFile, LeavesDisk, ForCommand, UnlessRun};
+ghost use Rattle.room_top.specs.Run.{status_of, counts, Later, PutCause, GetCause, JudgesBytes, JudgesCartridge, Prints, GetWrites, StoresFile, LeavesDisk, ForCommand, UnlessRun, UnlessUsage, AsksClock};
 
 use crate::Status;
 use crate::get::get;
@@ -45,21 +45,30 @@ pub fn run<S: Source, W: Sink, E: Sink, D: Store, C: Clock>(
 
     // What is written, what is stored, and what a crash at any moment of the run leaves.
     ensures written { Told (W.view out.old).tells (ForCommand (map string_bytes words.now) result
-        (λ cart. Prints (S.view input.old) cart (D.view disk.old) (D.view disk.new) (W.view out.old).written (W.view out.new).written result)
+        (λ cart. Prints (S.view input.old) (C.view clock.old) cart (D.view disk.old) (D.view disk.new) (W.view out.old).written (W.view out.new).written result)
         (λ cart number. GetWrites (D.view disk.old) cart number (W.view out.old).written (W.view out.new).written result)) }
     ensures silent { Told (W.view out.old).tells (UnlessRun result ((W.view out.new).written ≡ (W.view out.old).written)) }
     ensures stored { ForCommand (map string_bytes words.now) result
-        (λ cart. StoresFile (S.view input.old) cart (D.view disk.old) (D.view disk.new) result) (λ _ _. Unit {0}) }
+        (λ cart. StoresFile (S.view input.old) (C.view clock.old) cart (D.view disk.old) (D.view disk.new) result) (λ _ _. Unit {0}) }
     ensures moments { Told (D.view disk.old).tells (ForCommand (map string_bytes words.now) result
-        (λ cart. LeavesDisk (S.view input.old) cart (D.view disk.old) (D.view disk.new) result)
+        (λ cart. LeavesDisk (S.view input.old) (C.view clock.old) cart (D.view disk.old) (D.view disk.new) result)
         (λ _ _. Quiet (D.view disk.old) (D.view disk.new))) }
     ensures quiet { Told (D.view disk.old).tells (UnlessRun result (Quiet (D.view disk.old) (D.view disk.new))) }
+
+    // What is taken of the clock, and that words that don't fit take nothing.
+    ensures asked { Told (C.view clock.old).tells (ForCommand (map string_bytes words.now) result
+        (λ cart. AsksClock (S.view input.old) (D.view disk.old) cart (C.view clock.old).moments (C.view clock.new).moments result)
+        (λ _ _. (C.view clock.new).moments ≡ (C.view clock.old).moments)) }
+    ensures unasked { Told (C.view clock.old).tells
+        (UnlessUsage result ((C.view clock.new).moments ≡ (C.view clock.old).moments)) }
+    ensures untaken { Told (S.view input.old).tells
+        (UnlessUsage result ((S.view input.new).left ≡ (S.view input.old).left)) }
 
     // What the operator is told.
     ensures reported { Told (E.view err.old).tells (Reports result (E.view err.old) (E.view err.new)) }
 {
     let status = status_from(obey(alloc, words, input, out, disk, clock));
-    report(alloc, err, &status);
+    report(err, &status);
     status
 }
 
@@ -100,15 +109,24 @@ fn obey<S: Source, W: Sink, D: Store, C: Clock>(
 
     // What is written, what is stored, and what a crash at any moment of the run leaves.
     ensures written { Told (W.view out.old).tells (ForCommand (map string_bytes words.now) (status_of result)
-        (λ cart. Prints (S.view input.old) cart (D.view disk.old) (D.view disk.new) (W.view out.old).written (W.view out.new).written (status_of result))
+        (λ cart. Prints (S.view input.old) (C.view clock.old) cart (D.view disk.old) (D.view disk.new) (W.view out.old).written (W.view out.new).written (status_of result))
         (λ cart number. GetWrites (D.view disk.old) cart number (W.view out.old).written (W.view out.new).written (status_of result))) }
     ensures silent { Told (W.view out.old).tells (UnlessRun (status_of result) ((W.view out.new).written ≡ (W.view out.old).written)) }
     ensures stored { ForCommand (map string_bytes words.now) (status_of result)
-        (λ cart. StoresFile (S.view input.old) cart (D.view disk.old) (D.view disk.new) (status_of result)) (λ _ _. Unit {0}) }
+        (λ cart. StoresFile (S.view input.old) (C.view clock.old) cart (D.view disk.old) (D.view disk.new) (status_of result)) (λ _ _. Unit {0}) }
     ensures moments { Told (D.view disk.old).tells (ForCommand (map string_bytes words.now) (status_of result)
-        (λ cart. LeavesDisk (S.view input.old) cart (D.view disk.old) (D.view disk.new) (status_of result))
+        (λ cart. LeavesDisk (S.view input.old) (C.view clock.old) cart (D.view disk.old) (D.view disk.new) (status_of result))
         (λ _ _. Quiet (D.view disk.old) (D.view disk.new))) }
     ensures quiet { Told (D.view disk.old).tells (UnlessRun (status_of result) (Quiet (D.view disk.old) (D.view disk.new))) }
+
+    // What is taken of the clock, and that words that don't fit take nothing.
+    ensures asked { Told (C.view clock.old).tells (ForCommand (map string_bytes words.now) (status_of result)
+        (λ cart. AsksClock (S.view input.old) (D.view disk.old) cart (C.view clock.old).moments (C.view clock.new).moments (status_of result))
+        (λ _ _. (C.view clock.new).moments ≡ (C.view clock.old).moments)) }
+    ensures unasked { Told (C.view clock.old).tells
+        (UnlessUsage (status_of result) ((C.view clock.new).moments ≡ (C.view clock.old).moments)) }
+    ensures untaken { Told (S.view input.old).tells
+        (UnlessUsage (status_of result) ((S.view input.new).left ≡ (S.view input.old).left)) }
 {
     match read_words(alloc, words)? {
         Command::Put { cart } => put(alloc, cart, input, out, disk, clock),

@@ -1,13 +1,13 @@
 //! Finds where the next file of a cartridge goes.
 
 ghost use Rattle.std.specs.Prelude.{◌≡◌, ℕ, ◌≤◌, ◌<◌, ◌^◌, IfOk};
-ghost use Rattle.room_base.specs.Outside.{Told};
+ghost use Rattle.room_base.specs.Outside.{ClockView, Told};
 ghost use Rattle.room_disk.specs.Disk.{Quiet};
 ghost use Rattle.volume_block.specs.Valid.{IsLabel};
 ghost use Rattle.volume_store.specs.Committed.{HasLabel};
 ghost use Rattle.volume_store.specs.Writes.{cart_file, IsCart};
 ghost use Rattle.room_top.specs.Put.{IsSiteFor, site_number, site_mark, site_volid};
-ghost use Rattle.room_top.specs.Stages.{SiteCause, JudgesSite, SettlesSite, IsNewSite, NextCause, IsPlaceBehind};
+ghost use Rattle.room_top.specs.Stages.{SiteCause, JudgesSite, SettlesSite, IsNewSite, NeverNew, SiteAsks, NextCause, IsPlaceBehind};
 
 use crate::Status;
 use crate::raw::{blocks_for, is_raw, raw_label_of};
@@ -77,7 +77,10 @@ pub fn find_site<D: Store, C: Clock>(
     ensures ready { IfOk result (IsSiteFor cart.0 size) }
     ensures quiet { Told (D.view disk.old).tells (Quiet (D.view disk.old) (D.view disk.new)) }
     ensures settled { Told (D.view disk.old).tells (SettlesSite (D.view disk.new) (cart_file cart.0) result) }
-    ensures judged { Told (D.view disk.old).tells (JudgesSite cart.0 size ((D.view disk.old).reads (cart_file cart.0)) result) }
+    ensures judged { Told (D.view disk.old).tells
+        (JudgesSite (C.view clock.old) cart.0 size ((D.view disk.old).reads (cart_file cart.0)) result) }
+    ensures asked { Told (C.view clock.old).tells
+        (SiteAsks (C.view clock.old).moments (C.view clock.new).moments result) }
 {
     let Ok(found) = read_label(disk, cart) else {
         return Err(Status::DiskFault);
@@ -94,8 +97,10 @@ fn new_site<C: Clock>(cart: Cart, size: usize, clock: &mut C) -> Result<Site, St
     requires cart { IsCart cart.0 }
     requires size { (1 ≤ size) × (size ≤ 257024) }
     ensures later { (C.view clock.old).faults ≤ (C.view clock.new).faults }
-    ensures cause { IsNewSite cart.0 size (C.view clock.old).faults (C.view clock.new).faults result }
+    ensures cause { IsNewSite (C.view clock.old) cart.0 size (C.view clock.old).faults (C.view clock.new).faults result }
     ensures tells { (C.view clock.new).tells ≡ (C.view clock.old).tells }
+    ensures asked { Told (C.view clock.old).tells
+        (SiteAsks (C.view clock.old).moments (C.view clock.new).moments result) }
 {
     let Ok(now) = clock.now() else {
         return Err(Status::ClockFault);
@@ -120,7 +125,8 @@ fn next_site<D: Store>(
     ensures ready { IfOk result (IsSiteFor cart.0 size) }
     ensures quiet { Told (D.view disk.old).tells (Quiet (D.view disk.old) (D.view disk.new)) }
     ensures judged { Told (D.view disk.old).tells (HasLabel ((D.view disk.old).reads (cart_file cart.0)) label.now
-        → JudgesSite cart.0 size ((D.view disk.old).reads (cart_file cart.0)) result) }
+        → (clock : ClockView) → JudgesSite clock cart.0 size ((D.view disk.old).reads (cart_file cart.0)) result) }
+    ensures behind { NeverNew result }
 {
     if !is_raw(label) {
         return Err(occupied(alloc, cart));

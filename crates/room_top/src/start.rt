@@ -43,8 +43,8 @@ where
     let mut out = StdSink::new(out);
     let mut err = StdSink::new(err);
     match read_arguments(rt) {
-        Ok(Request::Help) => write_text(alloc, &mut out, &mut err, HELP),
-        Ok(Request::Version) => write_text(alloc, &mut out, &mut err, VERSION),
+        Ok(Request::Help) => write_text(&mut out, &mut err, HELP),
+        Ok(Request::Version) => write_text(&mut out, &mut err, VERSION),
         Ok(Request::Run { folder, words }) => {
             let mut input = StdSource::new(rt.reader());
             let mut disk = FolderStore::new(rt, alloc, folder);
@@ -60,7 +60,7 @@ where
             )
         }
         Err(status) => {
-            report(alloc, &mut err, &status);
+            report(&mut err, &status);
             status
         }
     }
@@ -130,7 +130,7 @@ fn folder_of(alloc: Global, word: &str) -> Result<Name, Status>
 }
 
 // Writes a text that was asked for.
-fn write_text<W: Sink, E: Sink>(alloc: Global, out: &mut W, err: &mut E, text: &[u8]) -> Status
+fn write_text<W: Sink, E: Sink>(out: &mut W, err: &mut E, text: &[u8]) -> Status
     ensures out_later { (W.view out.old).faults ≤ (W.view out.new).faults }
     ensures err_later { (E.view err.old).faults ≤ (E.view err.new).faults }
     ensures cause { IsToldBy (W.view out.old).faults (W.view out.new).faults result }
@@ -140,6 +140,6 @@ fn write_text<W: Sink, E: Sink>(alloc: Global, out: &mut W, err: &mut E, text: &
     if write_all(out, text).is_ok() {
         return Status::Done;
     }
-    report(alloc, err, &Status::WriteFault);
+    report(err, &Status::WriteFault);
     Status::WriteFault
 }

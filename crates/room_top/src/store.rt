@@ -1,5 +1,5 @@
 ghost use Rattle.std.specs.Prelude.{◌≡◌, ◌+◌, ◌≤◌, ℕ, [], List, length, OnOk};
-ghost use Rattle.room_base.specs.Outside.{Told};
+ghost use Rattle.room_base.specs.Outside.{ClockView, Told};
 ghost use Rattle.room_disk.specs.Disk.{Others, Settled, Leaves, OnFile, FileCause};
 ghost use Rattle.volume_block.specs.Chunks.{ChunkText};
 ghost use Rattle.volume_block.specs.Valid.{IsLabel};
@@ -34,12 +34,12 @@ pub fn store_file<D: Store>(
     ensures cause { StoreCause ((D.view disk.old).faults (cart_file cart.0)) ((D.view disk.new).faults (cart_file cart.0)) result }
     ensures tells { (D.view disk.new).tells ≡ (D.view disk.old).tells }
     ensures others { Told (D.view disk.old).tells (Others (cart_file cart.0) (D.view disk.old) (D.view disk.new)) }
-    ensures stored { Told (D.view disk.old).tells (IsSite cart.0 ((D.view disk.old).reads (cart_file cart.0)) site.now
-        → Stores (cart_file cart.0) cart.0 bytes.now (site_number site.now) (D.view disk.old) (D.view disk.new) result) }
-    ensures moments { Told (D.view disk.old).tells (IsSite cart.0 ((D.view disk.old).reads (cart_file cart.0)) site.now
+    ensures stored { Told (D.view disk.old).tells ((clock : ClockView) → IsSite clock cart.0 ((D.view disk.old).reads (cart_file cart.0)) site.now
+        → Stores (cart_file cart.0) clock cart.0 bytes.now (site_number site.now) (D.view disk.old) (D.view disk.new) result) }
+    ensures moments { Told (D.view disk.old).tells ((clock : ClockView) → IsSite clock cart.0 ((D.view disk.old).reads (cart_file cart.0)) site.now
         → Settled (D.view disk.old) (cart_file cart.0)
         → Leaves (D.view disk.old) (D.view disk.new) (OnFile (cart_file cart.0)
-        (IsPut cart.0 bytes.now ((D.view disk.old).reads (cart_file cart.0))) (D.view disk.old))) }
+        (IsPut clock cart.0 bytes.now ((D.view disk.old).reads (cart_file cart.0))) (D.view disk.old))) }
 {
     let Ok(mut buffer) = MuxBuffer::new(alloc) else {
         return Err(Status::Memory);
@@ -69,20 +69,20 @@ fn store_region<D: Store>(
     ensures cause { FileCause (cart_file cart.0) (D.view disk.old) (D.view disk.new) result }
     ensures tells { (D.view disk.new).tells ≡ (D.view disk.old).tells }
     ensures others { Told (D.view disk.old).tells (Others (cart_file cart.0) (D.view disk.old) (D.view disk.new)) }
-    ensures stored { Told (D.view disk.old).tells ((blocks : List (List ChunkText)) (bytes : List ℕ)
+    ensures stored { Told (D.view disk.old).tells ((clock : ClockView) (blocks : List (List ChunkText)) (bytes : List ℕ)
         → IsSealed (site_volid site.now) (site_mark site.now) blocks region.now
         → JoinTo (site_number site.now) blocks bytes
-        → IsSite cart.0 ((D.view disk.old).reads (cart_file cart.0)) site.now
-        → OnOk result (HasOneFileMore cart.0 bytes ((D.view disk.old).reads (cart_file cart.0)) (site_number site.now)
+        → IsSite clock cart.0 ((D.view disk.old).reads (cart_file cart.0)) site.now
+        → OnOk result (HasOneFileMore clock cart.0 bytes ((D.view disk.old).reads (cart_file cart.0)) (site_number site.now)
         ((D.view disk.new).reads (cart_file cart.0)))) }
     ensures settled { Told (D.view disk.old).tells (OnOk result (Settled (D.view disk.new) (cart_file cart.0))) }
-    ensures moments { Told (D.view disk.old).tells ((blocks : List (List ChunkText)) (bytes : List ℕ)
+    ensures moments { Told (D.view disk.old).tells ((clock : ClockView) (blocks : List (List ChunkText)) (bytes : List ℕ)
         → IsSealed (site_volid site.now) (site_mark site.now) blocks region.now
         → JoinTo (site_number site.now) blocks bytes
-        → IsSite cart.0 ((D.view disk.old).reads (cart_file cart.0)) site.now
+        → IsSite clock cart.0 ((D.view disk.old).reads (cart_file cart.0)) site.now
         → Settled (D.view disk.old) (cart_file cart.0)
         → Leaves (D.view disk.old) (D.view disk.new) (OnFile (cart_file cart.0)
-        (IsPut cart.0 bytes ((D.view disk.old).reads (cart_file cart.0))) (D.view disk.old))) }
+        (IsPut clock cart.0 bytes ((D.view disk.old).reads (cart_file cart.0))) (D.view disk.old))) }
 {
     match site {
         Site::New(label) => store_first_file(disk, label, region, count),

@@ -22,7 +22,7 @@ returns-clause-written g c = λ told.
     let before = (g.W.Sink.view c.args.out.now).written in
     let now = (g.W.Sink.view c.obey.new.out).written in
     let P : Status → Type 0 = λ status. ForCommand (map string_bytes c.args.words.now) status
-    (λ cart. Prints (g.S.Source.view c.args.input.now) cart old new before now status)
+    (λ cart. Prints (g.S.Source.view c.args.input.now) (g.C.Clock.view c.args.clock.now) cart old new before now status)
     (λ cart number. GetWrites old cart number before now status) in
     subst P (sym c.status_from-status.ensures) (c.obey.ensures.written told)
 
@@ -31,7 +31,7 @@ returns-clause-stored g c =
     let old = g.D.Store.view c.args.disk.now in
     let new = g.D.Store.view c.obey.new.disk in
     let P : Status → Type 0 = λ status. ForCommand (map string_bytes c.args.words.now) status
-    (λ cart. StoresFile (g.S.Source.view c.args.input.now) cart old new status) (λ _ _. Unit {0}) in
+    (λ cart. StoresFile (g.S.Source.view c.args.input.now) (g.C.Clock.view c.args.clock.now) cart old new status) (λ _ _. Unit {0}) in
     subst P (sym c.status_from-status.ensures) c.obey.ensures.stored
 
 pub returns-clause-moments : goal.returns-clause-moments
@@ -39,5 +39,5 @@ returns-clause-moments g c = λ told.
     let old = g.D.Store.view c.args.disk.now in
     let new = g.D.Store.view c.obey.new.disk in
     let P : Status → Type 0 = λ status. ForCommand (map string_bytes c.args.words.now) status
-    (λ cart. LeavesDisk (g.S.Source.view c.args.input.now) cart old new status) (λ _ _. Quiet old new) in
+    (λ cart. LeavesDisk (g.S.Source.view c.args.input.now) (g.C.Clock.view c.args.clock.now) cart old new status) (λ _ _. Quiet old new) in
     subst P (sym c.status_from-status.ensures) (c.obey.ensures.moments told)

@@ -26,7 +26,7 @@ store_region-requires-clause-ready g c =
     (c.blocks-count.ensures.count ∙ ap length are ∙ pack_count number 1 0 bytes)
 
 pub returns-in-Ok-store_region-clause-stored : goal.returns-in-Ok-store_region-clause-stored
-returns-in-Ok-store_region-clause-stored g c = λ told site.
+returns-in-Ok-store_region-clause-stored g c = λ told clock site.
     let bytes = c.args.bytes.now in
     let number = c.number-number.result in
     let blocks = c.push.new.self in
@@ -39,10 +39,10 @@ returns-in-Ok-store_region-clause-stored g c = λ told site.
     let M : ℕ → Type 0 = λ (m : ℕ). IsSealed (site_volid c.args.site.now) m blocks c.seal-region.result.now in
     let sealed : IsSealed (site_volid c.args.site.now) (site_mark c.args.site.now) blocks c.seal-region.result.now =
     subst M c.mark.ensures (subst V c.volid.ensures c.seal-region.ensures.sealed) in
-    (c.in-Ok-store_region.ensures.stored told blocks bytes sealed joins site, c.in-Ok-store_region.ensures.settled told)
+    (c.in-Ok-store_region.ensures.stored told clock blocks bytes sealed joins site, c.in-Ok-store_region.ensures.settled told)
 
 pub returns-in-Ok-store_region-clause-moments : goal.returns-in-Ok-store_region-clause-moments
-returns-in-Ok-store_region-clause-moments g c = λ told site settled.
+returns-in-Ok-store_region-clause-moments g c = λ told clock site settled.
     let bytes = c.args.bytes.now in
     let number = c.number-number.result in
     let blocks = c.push.new.self in
@@ -55,10 +55,10 @@ returns-in-Ok-store_region-clause-moments g c = λ told site settled.
     let M : ℕ → Type 0 = λ (m : ℕ). IsSealed (site_volid c.args.site.now) m blocks c.seal-region.result.now in
     let sealed : IsSealed (site_volid c.args.site.now) (site_mark c.args.site.now) blocks c.seal-region.result.now =
     subst M c.mark.ensures (subst V c.volid.ensures c.seal-region.ensures.sealed) in
-    c.in-Ok-store_region.ensures.moments told blocks bytes sealed joins site settled
+    c.in-Ok-store_region.ensures.moments told clock blocks bytes sealed joins site settled
 
 pub returns-clause-moments : goal.returns-clause-moments
-returns-clause-moments g c = λ told site settled.
+returns-clause-moments g c = λ told clock site settled.
     let bytes = c.args.bytes.now in
     let number = c.number-number.result in
     let blocks = c.push.new.self in
@@ -71,4 +71,4 @@ returns-clause-moments g c = λ told site settled.
     let M : ℕ → Type 0 = λ (m : ℕ). IsSealed (site_volid c.args.site.now) m blocks c.seal-region.result.now in
     let sealed : IsSealed (site_volid c.args.site.now) (site_mark c.args.site.now) blocks c.seal-region.result.now =
     subst M c.mark.ensures (subst V c.volid.ensures c.seal-region.ensures.sealed) in
-    c.in-Err.ensures.moments told blocks bytes sealed joins site settled
+    c.in-Err.ensures.moments told clock blocks bytes sealed joins site settled

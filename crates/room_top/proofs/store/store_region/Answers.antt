@@ -6,11 +6,11 @@ use Rattle.room_disk.proofs.Runs.{on_file_weaker}
 use Rattle.volume_store.specs.Committed.{Committed, Labelled, Closed}
 use Rattle.volume_store.specs.Writes.{cart_file, with_file, IsWholeOrAbsent}
 use Rattle.room_top.specs.Put.{HasOneFileMore, IsPut, IsFirstFile}
-use Rattle.room_top.proofs.PutRuns.{first_gains, next_gains, first_is_put, next_is_put}
+use Rattle.room_top.proofs.PutRuns.{first_is_one_more, next_is_one_more, first_is_put, next_is_put}
 use Rattle.room_top.proofs.store.store_region.Goals as goal
 
 pub returns-in-New-clause-stored : goal.returns-in-New-clause-stored
-returns-in-New-clause-stored g c = λ told blocks bytes sealed joined site.
+returns-in-New-clause-stored g c = λ told clock blocks bytes sealed joined site.
     let label = c.in-New.label in
     let cart = c.args.cart.0 in
     let before = (g.D.Store.view c.args.disk.now).reads (cart_file cart) in
@@ -19,12 +19,12 @@ returns-in-New-clause-stored g c = λ told blocks bytes sealed joined site.
     let known = rw c.in-New.is at site in
     let joins = rw c.in-New.is at joined in
     let P : ℕ → Type 0 = λ (k : ℕ). OnOk c.store_first_file.result (Committed (new.reads (cart_file k)) (with_file label [] 1 blocks)) in
-    rw c.in-New.is (IfOk-weaker c.store_first_file.result (λ _. Committed (new.reads (cart_file cart)) (with_file label [] 1 blocks)) (λ _. HasOneFileMore cart bytes before 1 (new.reads (cart_file cart)))
-    (λ _ stored. first_gains cart bytes before (new.reads (cart_file cart)) label blocks joins known.0 known.1 stored)
+    rw c.in-New.is (IfOk-weaker c.store_first_file.result (λ _. Committed (new.reads (cart_file cart)) (with_file label [] 1 blocks)) (λ _. HasOneFileMore clock cart bytes before 1 (new.reads (cart_file cart)))
+    (λ _ stored. first_is_one_more clock cart bytes before (new.reads (cart_file cart)) label blocks joins known.0 known.1 stored)
     (subst P ready.0 (c.store_first_file.ensures.stored told blocks (rw c.in-New.is at sealed))))
 
 pub returns-in-New-clause-moments : goal.returns-in-New-clause-moments
-returns-in-New-clause-moments g c = λ told blocks bytes sealed joined site settled.
+returns-in-New-clause-moments g c = λ told clock blocks bytes sealed joined site settled.
     let label = c.in-New.label in
     let cart = c.args.cart.0 in
     let old = g.D.Store.view c.args.disk.now in
@@ -34,12 +34,12 @@ returns-in-New-clause-moments g c = λ told blocks bytes sealed joined site sett
     let joins = rw c.in-New.is at joined in
     let S : ℕ → Type 0 = λ (k : ℕ). Settled old (cart_file k) in
     let P : ℕ → Type 0 = λ (k : ℕ). Leaves old new (OnFile (cart_file k) (IsFirstFile label blocks (old.reads (cart_file k))) old) in
-    on_file_weaker (cart_file cart) (IsFirstFile label blocks (old.reads (cart_file cart))) (IsPut cart bytes (old.reads (cart_file cart))) old new
+    on_file_weaker (cart_file cart) (IsFirstFile label blocks (old.reads (cart_file cart))) (IsPut clock cart bytes (old.reads (cart_file cart))) old new
     (subst P ready.0 (c.store_first_file.ensures.moments told blocks (rw c.in-New.is at sealed) (subst S (sym ready.0) settled)))
-    (λ disk first. first_is_put cart bytes (old.reads (cart_file cart)) disk label blocks joins known.0 known.1 first)
+    (λ disk first. first_is_put clock cart bytes (old.reads (cart_file cart)) disk label blocks joins known.0 known.1 first)
 
 pub returns-in-Next-clause-stored : goal.returns-in-Next-clause-stored
-returns-in-Next-clause-stored g c = λ told blocks bytes sealed joined site.
+returns-in-Next-clause-stored g c = λ told clock blocks bytes sealed joined site.
     let volume = c.in-Next.volume in
     let label = volume.label in
     let mark = volume.mark in
@@ -54,12 +54,12 @@ returns-in-Next-clause-stored g c = λ told blocks bytes sealed joined site.
     let files = known.0 in
     let H : ℕ → Type 0 = λ (k : ℕ). Committed (old.reads (cart_file k)) (Labelled label files (Closed mark)) in
     let P : ℕ → Type 0 = λ (k : ℕ). OnOk c.commit.result (Committed (new.reads (cart_file k)) (with_file label files mark blocks)) in
-    rw c.in-Next.is (IfOk-weaker c.commit.result (λ _. Committed (new.reads (cart_file cart)) (with_file label files mark blocks)) (λ _. HasOneFileMore cart bytes before number (new.reads (cart_file cart)))
-    (λ _ stored. next_gains cart mark number bytes before (new.reads (cart_file cart)) label files blocks joins known.1 known.2 stored)
+    rw c.in-Next.is (IfOk-weaker c.commit.result (λ _. Committed (new.reads (cart_file cart)) (with_file label files mark blocks)) (λ _. HasOneFileMore clock cart bytes before number (new.reads (cart_file cart)))
+    (λ _ stored. next_is_one_more clock cart mark number bytes before (new.reads (cart_file cart)) label files blocks joins known.1 known.2 stored)
     (subst P ready.0 (c.commit.ensures.added told files blocks (rw c.in-Next.is at sealed) (subst H (sym ready.0) known.1.1))))
 
 pub returns-in-Next-clause-moments : goal.returns-in-Next-clause-moments
-returns-in-Next-clause-moments g c = λ told blocks bytes sealed joined site settled.
+returns-in-Next-clause-moments g c = λ told clock blocks bytes sealed joined site settled.
     let volume = c.in-Next.volume in
     let label = volume.label in
     let mark = volume.mark in
@@ -75,6 +75,6 @@ returns-in-Next-clause-moments g c = λ told blocks bytes sealed joined site set
     let S : ℕ → Type 0 = λ (k : ℕ). Settled old (cart_file k) in
     let H : ℕ → Type 0 = λ (k : ℕ). Committed (old.reads (cart_file k)) (Labelled label files (Closed mark)) in
     let P : ℕ → Type 0 = λ (k : ℕ). Leaves old new (OnFile (cart_file k) (IsWholeOrAbsent label files mark blocks) old) in
-    on_file_weaker (cart_file cart) (IsWholeOrAbsent label files mark blocks) (IsPut cart bytes before) old new
+    on_file_weaker (cart_file cart) (IsWholeOrAbsent label files mark blocks) (IsPut clock cart bytes before) old new
     (subst P ready.0 (c.commit.ensures.moments told files blocks (rw c.in-Next.is at sealed) (subst H (sym ready.0) known.1.1) (subst S (sym ready.0) settled)))
-    (λ disk kept. next_is_put cart mark number bytes before disk label files blocks joins known.1 known.2 kept)
+    (λ disk kept. next_is_put clock cart mark number bytes before disk label files blocks joins known.1 known.2 kept)
