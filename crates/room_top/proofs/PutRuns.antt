@@ -8,8 +8,8 @@ use Rattle.volume_store.proofs.Walking.{quiet_then}
 use Rattle.volume_block.specs.Chunks.{ChunkText}
 use Rattle.volume_block.specs.declared.label.Label.{Label}
 use Rattle.volume_store.specs.Committed.{CommittedFile, Committed}
-use Rattle.volume_store.specs.Writes.{cart_file, added_file, with_file, without_files, IsWholeOrAbsent}
-use Rattle.room_top.specs.Raw.{raw_label, IsRawCartridge, JoinTo}
+use Rattle.volume_store.specs.Writes.{cart_file, added_file, with_file, IsWholeOrAbsent}
+use Rattle.room_top.specs.Raw.{IsRawCartridge, JoinTo}
 use Rattle.room_top.specs.Put.{HasOneFileMore, IsNewLabel, IsOccupied, IsPut, IsFirstFile, IsSite, IsSiteFor, HasRoom, blocks_for}
 use Rattle.room_top.specs.Run.{AreInput, TouchesCartridge, LeavesDisk}
 use Rattle.room_top.specs.Stages.{StoreCause, Stores}

@@ -9,7 +9,7 @@ use Rattle.room_disk.specs.Disk.{DiskView, Quiet, Settled}
 use Rattle.volume_block.specs.declared.label.Label.{Label}
 use Rattle.volume_store.specs.Committed.{block_at, IsDataPlace, Damaged, CommittedFile, Committed, Unlabelled, HasLabel}
 use Rattle.volume_store.specs.declared.marks.FilePlace.{FilePlace}
-use Rattle.room_top.specs.Raw.{raw_label, IsRaw, HasBytes, IsFileOn, IsFirstDamaged, GivesFile, IsDamagedIn, LacksFile, IsDamagedAt, IsStrange}
+use Rattle.room_top.specs.Raw.{IsRaw, HasBytes, IsFileOn, IsFirstDamaged, GivesFile, IsDamagedIn, LacksFile, IsDamagedAt, IsStrange}
 use Rattle.room_top.specs.Put.{HasOneFileMore, IsNewLabel, IsOccupied, blocks_for, IsSite, IsSiteFor, IsFull}
 use Rattle.room_top.specs.declared.site.Site.{Site}
 use Rattle.room_top.specs.declared.site.Site.TheVariants as sites

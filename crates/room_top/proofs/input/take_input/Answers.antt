@@ -1,4 +1,4 @@
-use Rattle.std.proofs.Common.{◌≡◌, ◌∙◌, ◌≤◌, ℕ, [], length, subst, arith}
+use Rattle.std.proofs.Common.{◌≡◌, ◌∙◌, ◌≤◌, ℕ, [], length, drop, ap, subst, arith}
 use Rattle.room_top.specs.Stages.{Fills}
 use Rattle.room_top.proofs.TakenInput.{fills_all, fills_none, buffer_cut}
 use Rattle.room_top.proofs.input.take_input.Goals as goal
@@ -26,3 +26,12 @@ returns-clause-judged g c = λ told.
           ∙ fills_all before.left after.left c.take_up_to.new.buffer taken (c.in-Ok-take_up_to.ensures.filled told) ended,
       ended,
     )
+
+pub returns-then-taken-gt-MAX_FILE_SIZE-clause-judged : goal.returns-then-taken-gt-MAX_FILE_SIZE-clause-judged
+returns-then-taken-gt-MAX_FILE_SIZE-clause-judged g c = λ told.
+    let before = g.S.Source.view c.args.input.now in
+    let taken = c.in-Ok-take_up_to.taken in
+    let long : length c.take_up_to.new.buffer ≡ 257025 = omega (arith, c.in-Ok.ensures, c.deref_mut.ensures.len) in
+    let is : taken ≡ 257025 = omega (arith, long, c.in-Ok-take_up_to.ensures.within, c.if-taken-gt-MAX_FILE_SIZE.true) in
+    let fills = c.in-Ok-take_up_to.ensures.filled told in
+    (omega (arith, fills.enough, is), fills.left ∙ ap (λ n. drop n before.left) is)

@@ -1,4 +1,4 @@
-use Rattle.std.proofs.Common.{rules, ◌≡◌, ◌∙◌, ℕ, List, length, sym, ap, subst}
+use Rattle.std.proofs.Common.{rules, ◌≡◌, ◌∙◌, ◌++◌, ℕ, List, length, sym, ap, subst}
 use Rattle.std.specs.Prelude.{IsTrue}
 use Rattle.room_base.specs.Outside.{AddsFront}
 use Rattle.volume_store.specs.Writes.{cart_file}
@@ -78,6 +78,30 @@ returns-in-Ok-write_all-clause-moments g c = λ told.
     touches input clock old mid new cart bytes site are quiet (c.in_ok-site.ensures.settled told) (c.in_ok-site.ensures.judged told)
     (c.in_ok-store_file.ensures.others told_mid) (c.in_ok-store_file.ensures.moments told_mid clock) in
     touched
+
+pub returns-in-Ok-write_all-clause-printed : goal.returns-in-Ok-write_all-clause-printed
+returns-in-Ok-write_all-clause-printed g c = λ told_out.
+    let input = g.S.Source.view c.args.input.now in
+    let clock = g.C.Clock.view c.args.clock.now in
+    let old = g.D.Store.view c.args.disk.now in
+    let mid = g.D.Store.view c.find_site.new.disk in
+    let new = g.D.Store.view c.store_file.new.disk in
+    let cart = c.args.cart.0 in
+    let bytes = c.deref.result.now in
+    let site = c.in_ok-site.site in
+    let are : AreInput input bytes = λ known. c.deref.ensures.value ∙ (c.in_ok-bytes.ensures.judged known).0 in
+    let kept : KeepsInput input clock cart old new bytes (site_number site) = (
+      are,
+      λ told. (let told_mid : IsTrue mid.tells = rw c.in_ok-site.ensures.disk_tells told in
+          kept_behind clock old mid new cart (site_number site) bytes site (c.in_ok-site.ensures.quiet told) (c.in_ok-site.ensures.judged told)
+          (c.in_ok-store_file.ensures.stored told_mid clock)),
+    ) in
+    let size : c.len-2.result ≡ length c.in_ok-bytes.bytes.items = search rules in
+    let line : c.as_bytes.result.now ≡ kept_line (length bytes) (site_number site) cart =
+    c.as_bytes.ensures.value ∙ c.in-Ok.ensures ∙ ap (λ count. kept_line count c.number.result cart) (size ∙ ap length (sym c.deref.ensures.value))
+    ∙ ap (λ number. kept_line (length bytes) number cart) c.number.ensures in
+    let before = (g.W.Sink.view c.args.out.now).written in
+    (bytes, (site_number site, kept, c.in-Ok-write_all.ensures.written told_out ∙ ap (λ (text : List ℕ). before ++ text) line))
 
 pub returns-clause-printed : goal.returns-clause-printed
 returns-clause-printed g c = λ told_out.

@@ -1,4 +1,4 @@
-use Rattle.std.proofs.Common.{◌≡◌, ◌++◌, List, ℕ, Err, Ok}
+use Rattle.std.proofs.Common.{◌++◌, Err}
 use Rattle.std.specs.Prelude.{codes}
 use Rattle.std.proofs.lemmas.Result.{err_from_is_err_and}
 use Rattle.room_base.specs.Refusals.{refusal_text}
@@ -14,7 +14,7 @@ returns-in_err-write_parts g c =
 
 pub returns-in_err-write_refusal : goal.returns-in_err-write_refusal
 returns-in_err-write_refusal g c =
-    let p = err_from_is_err_and c.from_residual.result c.from_residual.ensures.1 in
+    let p = err_from_is_err_and c.from_residual-in_err-write_refusal.result c.from_residual-in_err-write_refusal.ensures.1 in
     let text = refusal_text c.args.refusal.now in
     rw p.1 (text_then (codes "room: refused ") (text ++ codes "\n") _ _ _ tt (Err p.0) c.in_ok-write_parts.ensures.written
     (text_stopped text (codes "\n") _ _ c.in_err-write_refusal.field-0.0 p.0 c.in_err-write_refusal.ensures))

@@ -1,9 +1,9 @@
-use Rattle.std.proofs.Common.{subst, sym, map}
+use Rattle.std.proofs.Common.{◌≡◌, subst, sym, map}
 use Rattle.std.specs.Prelude.{string_bytes}
 use Rattle.room_disk.specs.Disk.{Quiet}
 use Rattle.volume_store.specs.Writes.{cart_file}
 use Rattle.room_top.specs.Stages.{JudgesRead}
-use Rattle.room_top.specs.Run.{JudgesCartridge, Prints, GetWrites, StoresFile, LeavesDisk, ForCommand}
+use Rattle.room_top.specs.Run.{JudgesCartridge, Prints, GetWrites, StoresFile, LeavesDisk, AsksClock, ForCommand}
 use Rattle.room_top.specs.declared.status.Status.{Status}
 use Rattle.room_top.proofs.run.run.Goals as goal
 
@@ -41,3 +41,12 @@ returns-clause-moments g c = λ told.
     let P : Status → Type 0 = λ status. ForCommand (map string_bytes c.args.words.now) status
     (λ cart. LeavesDisk (g.S.Source.view c.args.input.now) (g.C.Clock.view c.args.clock.now) cart old new status) (λ _ _. Quiet old new) in
     subst P (sym c.status_from-status.ensures) (c.obey.ensures.moments told)
+
+pub returns-clause-asked : goal.returns-clause-asked
+returns-clause-asked g c = λ told.
+    let disk = g.D.Store.view c.args.disk.now in
+    let before = (g.C.Clock.view c.args.clock.now).moments in
+    let now = (g.C.Clock.view c.obey.new.clock).moments in
+    let P : Status → Type 0 = λ status. ForCommand (map string_bytes c.args.words.now) status
+    (λ cart. AsksClock (g.S.Source.view c.args.input.now) disk cart before now status) (λ _ _. now ≡ before) in
+    subst P (sym c.status_from-status.ensures) (c.obey.ensures.asked told)
