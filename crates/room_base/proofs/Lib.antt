@@ -1,2 +1,6 @@
+pub mod OrderedLists
+pub mod OrderedSearch
+pub mod OrderedUpdates
+pub mod OrderedLaws
 pub mod Taking
 pub mod Writing

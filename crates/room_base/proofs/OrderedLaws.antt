@@ -1,0 +1,1 @@
+-- What look-ups find in a list, and what they find after an update.
