@@ -1,5 +1,5 @@
 -- What updates at a place make of a list whose keys ascend, and what they keep.
-use Rattle.std.proofs.Common.{◌≡◌, ℕ, zero, suc, ◌<◌, Bool, true, false, not, List, [], ◌∷◌, length, get_or, set, Ok, Err, refl, sym, ap, subst, ◌∙◌, arith}
+use Rattle.std.proofs.Common.{◌≡◌, ℕ, zero, suc, ◌<◌, false, not, List, [], ◌∷◌, length, get_or, set, Ok, Err, refl, sym, ap, subst, ◌∙◌, arith}
 use Rattle.std.specs.List.{AllByRecursion, insert, remove}
 use Rattle.std.specs.Cmp.{IsTotalOrder}
 use Rattle.std.specs.Ordering.{is_eq, is_gt, eq_by_cmp, match_ordering}
@@ -7,7 +7,7 @@ use Rattle.std.specs.declared.cmp.Ordering.{Ordering}
 use Rattle.std.specs.declared.cmp.Ordering.TheVariants.{Less, Equal, Greater}
 use Rattle.std.proofs.lemmas.Bool.{cond-true, cond-false, cond_both}
 use Rattle.std.proofs.lemmas.Cmp.{alike_right, tied_back}
-use Rattle.room_base.specs.Ordered.{AscendsFrom, Ascends, IsPlace, put_by, remove_by, changed_at, update_by}
+use Rattle.room_base.specs.Ordered.{AscendsFrom, Ascends, IsPlace, put_by, remove_by, update_by}
 use Rattle.room_base.proofs.OrderedLists.{from_lower, ascend_alone, above_each, less_back, greater_back, before_place, ascend_rest, tail_place, tail_gap}
 use Rattle.room_base.proofs.OrderedSearch.{others_at}
 
@@ -65,28 +65,21 @@ module _ {X K : Type 0} {R : K → K → Ordering} (o : IsTotalOrder R) (key : X
     none_removed xs at place = sym (keeps_all xs (others_at o key gone xs at place))
 
     module _ (change : X → X) where
-      stays : (x : X) → eq_by_cmp R (key x) gone ≡ false → changed_at R key gone change x ≡ x
-      stays x other = cond-false (eq_by_cmp R (key x) gone) (change x) x other
+      stays : (x : X) (xs : List X) → eq_by_cmp R (key x) gone ≡ false → update_by R key gone change (x ∷ xs) ≡ x ∷ update_by R key gone change xs
+      stays x xs other = cond-false (eq_by_cmp R (key x) gone) (change x ∷ xs) (x ∷ update_by R key gone change xs) other
 
       all_stay : (xs : List X) → ((i : ℕ) (d : X) → i < length xs → eq_by_cmp R (key (get_or xs i d)) gone ≡ false) → update_by R key gone change xs ≡ xs
       all_stay [] others = refl
-      all_stay (x ∷ xs) others =
-          let first = stays x (others zero x (omega arith)) in
-          let rest = all_stay xs (λ i d within. others (suc i) d (omega arith)) in
-          cc (first, rest)
+      all_stay (x ∷ xs) others = stays x xs (others zero x (omega arith)) ∙ ap (λ rest. x ∷ rest) (all_stay xs (λ i d within. others (suc i) d (omega arith)))
 
       -- the item of a key is changed at its place
       pub updated_at : (xs : List X) (at : ℕ) → Ascends R key xs → IsPlace R key gone xs (Ok at) → (d : X) → set xs at (change (get_or xs at d)) ≡ update_by R key gone change xs
       updated_at [] at a place d = absurd (omega (arith, place.0))
-      updated_at (x ∷ xs) zero a place d =
-          let first = cond-true (eq_by_cmp R (key x) gone) (change x) x (ap is_eq (place.1 x)) in
-          let rest = all_stay xs (after_found x xs a (place.1 x)) in
-          cc (first, rest)
+      updated_at (x ∷ xs) zero a place d = sym (cond-true (eq_by_cmp R (key x) gone) (change x ∷ xs) (x ∷ update_by R key gone change xs) (ap is_eq (place.1 x)))
       updated_at (x ∷ xs) (suc at) a place d =
           let tail = tail_place o key gone x xs at place in
-          let first = stays x (ap is_eq (before_place o key (key x) gone xs a at tail)) in
-          let rest = updated_at xs at (ascend_rest o key x xs a) tail d in
-          cc (first, rest)
+          ap (λ rest. x ∷ rest) (updated_at xs at (ascend_rest o key x xs a) tail d)
+          ∙ sym (stays x xs (ap is_eq (before_place o key (key x) gone xs a at tail)))
 
       -- where none has the key, all stay
       pub none_updated : (xs : List X) (at : ℕ) → IsPlace R key gone xs (Err at) → xs ≡ update_by R key gone change xs
@@ -129,21 +122,20 @@ module _ {X K : Type 0} {R : K → K → Ordering} (o : IsTotalOrder R) (key : X
       by Equal is = from_lower o key (key x) (key item) xs (ap is_gt (tied_back o (key x) (key item) is)) a
       by Greater is = (greater_back o (key x) (key item) is, a)
 
-  module _ (change : X → X) (keeps_key : (x : X) → key (change x) ≡ key x) where
-    -- a changed item keeps its key
-    pub key_kept : (wanted : K) (x : X) → key (changed_at R key wanted change x) ≡ key x
-    key_kept wanted x = cond_both (eq_by_cmp R (key x) wanted) (change x) x (λ y. key y ≡ key x) (λ same. keeps_key x) (λ other. refl)
+  module _ (change : X → X) (keeps_key : (x : X) → key (change x) ≡ key x) (wanted : K) where
+    updated_from : (low : K) (xs : List X) → AscendsFrom R key low xs → AscendsFrom R key low (update_by R key wanted change xs)
+    updated_from low [] a = tt
+    updated_from low (x ∷ xs) a =
+        cond_both (eq_by_cmp R (key x) wanted) (change x ∷ xs) (x ∷ update_by R key wanted change xs) (AscendsFrom R key low)
+        (λ same. (subst (λ (k : K). R low k ≡ Less) (sym (keeps_key x)) a.0, subst (λ (k : K). AscendsFrom R key k xs) (sym (keeps_key x)) a.1))
+        (λ other. (a.0, updated_from (key x) xs a.1))
 
-    updated_from : (wanted low : K) (xs : List X) → AscendsFrom R key low xs → AscendsFrom R key low (update_by R key wanted change xs)
-    updated_from wanted low [] a = tt
-    updated_from wanted low (x ∷ xs) a =
-        let same = sym (key_kept wanted x) in
-        (subst (λ (k : K). R low k ≡ Less) same a.0, subst (λ (k : K). AscendsFrom R key k (update_by R key wanted change xs)) same (updated_from wanted (key x) xs a.1))
-
-    pub ascends_updated : (wanted : K) (xs : List X) → Ascends R key xs → Ascends R key (update_by R key wanted change xs)
-    ascends_updated wanted [] a = tt
-    ascends_updated wanted (x ∷ xs) a =
-        subst (λ (k : K). AscendsFrom R key k (update_by R key wanted change xs)) (sym (key_kept wanted x)) (updated_from wanted (key x) xs a)
+    pub ascends_updated : (xs : List X) → Ascends R key xs → Ascends R key (update_by R key wanted change xs)
+    ascends_updated [] a = tt
+    ascends_updated (x ∷ xs) a =
+        cond_both (eq_by_cmp R (key x) wanted) (change x ∷ xs) (x ∷ update_by R key wanted change xs) (Ascends R key)
+        (λ same. subst (λ (k : K). AscendsFrom R key k xs) (sym (keeps_key x)) a)
+        (λ other. updated_from (key x) xs a)
 
   -- ---- a fact of each item
 
@@ -166,4 +158,6 @@ module _ {X K : Type 0} {R : K → K → Ordering} (o : IsTotalOrder R) (key : X
     pub each_updated : (change : X → X) → ((x : X) → P x → P (change x)) → (wanted : K) (xs : List X) → AllByRecursion P xs → AllByRecursion P (update_by R key wanted change xs)
     each_updated change keeps wanted [] each = tt
     each_updated change keeps wanted (x ∷ xs) each =
-        (cond_both (eq_by_cmp R (key x) wanted) (change x) x P (λ same. keeps x each.0) (λ other. each.0), each_updated change keeps wanted xs each.1)
+        cond_both (eq_by_cmp R (key x) wanted) (change x ∷ xs) (x ∷ update_by R key wanted change xs) (AllByRecursion P)
+        (λ same. (keeps x each.0, each.1))
+        (λ other. (each.0, each_updated change keeps wanted xs each.1))

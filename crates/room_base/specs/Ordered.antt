@@ -1,5 +1,5 @@
 -- Lists in which the keys of the items ascend: look-ups by a key, and updates of the item that has it.
-use Rattle.std.specs.Prelude.{◌≡◌, ℕ, ◌<◌, ◌≤◌, List, [], ◌∷◌, length, map, filter, not, if◌then◌else◌, Option, Result, Ok, Err}
+use Rattle.std.specs.Prelude.{◌≡◌, ℕ, ◌<◌, ◌≤◌, List, [], ◌∷◌, length, filter, not, if◌then◌else◌, Option, Result, Ok, Err}
 use Rattle.std.specs.List.{find, HoldsAt, AllWithin}
 use Rattle.std.specs.Ordering.{eq_by_cmp, match_ordering}
 use Rattle.std.specs.declared.cmp.Ordering.{Ordering}
@@ -39,10 +39,8 @@ put_by cmp key item (x ∷ xs) =
 abbrev pub remove_by : {X K : Type 0} → (K → K → Ordering) → (X → K) → K → List X → List X
 remove_by cmp key gone xs = filter (λ x. not (eq_by_cmp cmp (key x) gone)) xs
 
--- an item that has the key is changed, any other stays
-abbrev pub changed_at : {X K : Type 0} → (K → K → Ordering) → (X → K) → K → (X → X) → X → X
-changed_at cmp key wanted change x = if eq_by_cmp cmp (key x) wanted then change x else x
-
--- the list with the item of the key changed
+-- the list with the first item of the key changed
 abbrev pub update_by : {X K : Type 0} → (K → K → Ordering) → (X → K) → K → (X → X) → List X → List X
-update_by cmp key wanted change xs = map (changed_at cmp key wanted change) xs
+update_by cmp key wanted change [] = []
+update_by cmp key wanted change (x ∷ xs) =
+    if eq_by_cmp cmp (key x) wanted then (change x ∷ xs) else (x ∷ update_by cmp key wanted change xs)

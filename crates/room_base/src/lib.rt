@@ -31,7 +31,10 @@ pub use mem_sink::MemSink;
 pub use mem_source::MemSource;
 pub use name::{Name, NameFault};
 pub use numbers::{Cart, CopyNo, MAX_MOMENT, Moment, Ssid, Volid};
-pub use ordered::insert_in_room;
+pub use ordered::{
+    change_is_found, found_is_in_the_list, insert_in_room, put_is_found, removed_is_not_found,
+    same_found_is_same_list,
+};
 pub use real_clock::RealClock;
 pub use refusal::Refusal;
 pub use set_clock::SetClock;
