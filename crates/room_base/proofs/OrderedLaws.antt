@@ -29,6 +29,10 @@ hidden false false x y z same = refl
 hidden true false x y z same = absurd (true≢false same)
 hidden false true x y z same = absurd (true≢false (sym same))
 
+pub each_weaker : {X : Type 0} (P Q : X → Type 0) → ((x : X) → P x → Q x) → (xs : List X) → AllByRecursion P xs → AllByRecursion Q xs
+each_weaker P Q weaker [] each = tt
+each_weaker P Q weaker (x ∷ xs) each = (weaker x each.0, each_weaker P Q weaker xs each.1)
+
 module _ {X K : Type 0} {R : K → K → Ordering} (o : IsTotalOrder R) (key : X → K) where
   -- items of one key have any key together
   alike : (x y k : K) → R x y ≡ Equal → eq_by_cmp R x k ≡ eq_by_cmp R y k
