@@ -1,5 +1,5 @@
 pub mod Chains
-pub mod Keyed
+pub mod CopyLists
+pub mod Dropped
 pub mod Listed
-mod Searches
 pub mod Updates

@@ -1,3 +1,4 @@
-pub mod Keyed
+pub mod Edits
 pub mod Rows
+pub mod Streams
 pub mod Usable

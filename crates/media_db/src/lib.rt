@@ -5,6 +5,7 @@
 
 mod copies;
 mod database;
+mod edits;
 mod laws;
 mod place;
 mod records;
@@ -14,8 +15,9 @@ mod volumes;
 pub use copies::{CopyState, Section, SetCopy};
 pub use database::MediaDb;
 pub use laws::{
-    found_after_a_put, found_after_a_removal, found_is_listed, least_on_a_cartridge,
-    lists_are_what_is_found,
+    found_after_a_drop, found_after_a_put, found_after_a_removal, found_after_an_edit,
+    found_is_listed, least_on_a_cartridge, lists_are_what_is_found, no_copy_is_left_on_the_volume,
+    record_keeps_the_head,
 };
 pub use records::{Record, RecordState};
 pub use volumes::VolumeRec;

@@ -12,6 +12,7 @@ mod mem_sink;
 mod mem_source;
 mod name;
 mod numbers;
+mod ordered;
 mod real_clock;
 mod refusal;
 mod refusal_fields;
@@ -31,6 +32,10 @@ pub use mem_sink::MemSink;
 pub use mem_source::MemSource;
 pub use name::{Name, NameFault};
 pub use numbers::{Cart, CopyNo, MAX_MOMENT, Moment, Ssid, Volid};
+pub use ordered::{
+    change_is_found, found_is_in_the_list, insert_in_room, put_is_found, removed_is_not_found,
+    same_found_is_same_list,
+};
 pub use real_clock::RealClock;
 pub use refusal::Refusal;
 pub use refusal_fields::{Field, FieldValue, Fields};

@@ -2,4 +2,4 @@ use Rattle.media_db.proofs.Listed.{least_on}
 use Rattle.media_db.proofs.laws.least_on_a_cartridge.Goals as goal
 
 pub returns : goal.returns
-returns c volumes cart up = least_on cart volumes up
+returns c = λ volumes cart up. least_on cart volumes up

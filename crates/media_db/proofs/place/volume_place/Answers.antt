@@ -1,7 +1,8 @@
 use Rattle.std.proofs.Common.{rules}
+use Rattle.std.proofs.lemmas.Cmp.{nat_cmp_total}
 use Rattle.std.proofs.lemmas.List.Sorted.{answers_always}
+use Rattle.room_base.proofs.OrderedLists.{searched}
 use Rattle.media_db.specs.Rows.{volid_of}
-use Rattle.media_db.proofs.Searches.{searched}
 use Rattle.media_db.proofs.place.volume_place.Goals as goal
 
 -- the closure gives a volume's volid
@@ -9,4 +10,4 @@ pub returns : goal.returns
 returns c =
     let facts = c.binary_search_by_key.ensures in
     let by_key = facts.position volid_of (answers_always _ _ _ (λ f a r g called. search rules)) in
-    searched volid_of c.args.volumes.now c.requires c.args.volid c.binary_search_by_key.result facts.bound by_key
+    searched nat_cmp_total volid_of _ c.requires _ _ facts.bound by_key

@@ -1,0 +1,32 @@
+use Rattle.std.proofs.Common.{refl, sym, subst}
+use Rattle.std.proofs.lemmas.Cmp.{nat_cmp_total}
+use Rattle.room_base.proofs.OrderedSearch.{found_read}
+use Rattle.media_db.specs.Edits.{with_begun_copy}
+use Rattle.media_db.specs.Rows.{AreRecords, ssid_of}
+use Rattle.media_db.proofs.Updates.{edited_at, edited_none, records_edited}
+use Rattle.media_db.proofs.database.MediaDb.begin_copy.Goals as goal
+
+pub invariant_of-self : goal.invariant_of-self
+invariant_of-self c =
+    let place = rw c.deref.ensures.value at c.in-Ok.ensures in
+    let edit = edited_at (with_begun_copy c.args.no) c.args.ssid.0 c.self.inside.records.items c.in-Ok.at c.self.invariant.0 place c.index_mut.result.now c.begin_copy.new.self c.index_mut.ensures.value c.begin_copy.ensures in
+    (subst AreRecords (sym edit) (records_edited (with_begun_copy c.args.no) (record { ssid = λ row. refl; base = λ row. refl }) c.args.ssid.0 _ c.self.invariant.0), c.self.invariant.1)
+
+pub returns-in-Ok : goal.returns-in-Ok
+returns-in-Ok c =
+    let place = rw c.deref.ensures.value at c.in-Ok.ensures in
+    let edit = edited_at (with_begun_copy c.args.no) c.args.ssid.0 c.self.inside.records.items c.in-Ok.at c.self.invariant.0 place c.index_mut.result.now c.begin_copy.new.self c.index_mut.ensures.value c.begin_copy.ensures in
+    rw (← c.self.view_is, edit) refl
+
+pub returns-in_default : goal.returns-in_default
+returns-in_default c =
+    let gap = rw c.deref.ensures.value at c.in_default.ensures in
+    let same = edited_none (with_begun_copy c.args.no) c.args.ssid.0 c.self.inside.records.items _ gap in
+    rw (← c.self.view_is, ← same) refl
+
+-- the record that is found is the one at its place
+pub begin_copy-requires-clause-room : goal.begin_copy-requires-clause-room
+begin_copy-requires-clause-room c =
+    let place = rw c.deref.ensures.value at c.in-Ok.ensures in
+    let found = found_read nat_cmp_total ssid_of c.args.ssid.0 c.self.inside.records.items c.self.invariant.0.ascending c.in-Ok.at place c.index_mut.result.now c.index_mut.ensures.value in
+    c.requires.room c.index_mut.result.now (rw (← c.self.view_is) found)
