@@ -1,11 +1,13 @@
-ghost use Rattle.std.specs.Prelude.{◌≡◌, false, []};
+ghost use Rattle.std.specs.Prelude.{◌≡◌, ◌/◌, false, []};
+ghost use Rattle.std.specs.Time.{system_time_nanos};
 
 use crate::calls::risen_count;
 use crate::{Clock, Failed, Moment};
 use std::rt;
 use std::time::{SystemTime, UNIX_EPOCH};
 
-/// The system's clock. It tells nothing of its moments; a time before 1970 is a fault of it.
+/// The system's clock. It tells nothing of its moments. A system whose clock stands before 1970
+/// has no time, and that is a fault of it.
 #[derive(Debug, Drop)]
 pub struct RealClock<R: rt::Clock> {
     system: R,
@@ -24,12 +26,19 @@ impl<R: rt::Clock> Clock for RealClock<R> {
     ghost view = { λ clock. record { tells = false; moments = []; faults = clock.faults } };
 
     fn now(&mut self) -> Result<Moment, Failed> {
-        if let Ok(now) = SystemTime::now(&self.system) {
-            if let Ok(since) = now.duration_since(UNIX_EPOCH) {
-                return Ok(Moment(since.as_secs()));
+        match SystemTime::now(&self.system) {
+            Ok(time) => Ok(moment_of(time)),
+            Err(_) => {
+                self.faults = risen_count(self.faults);
+                Err(Failed)
             }
         }
-        self.faults = risen_count(self.faults);
-        Err(Failed)
     }
+}
+
+// The moment of a time of the system: its whole seconds.
+fn moment_of(time: SystemTime) -> Moment
+    ensures { result.0 ≡ system_time_nanos time / 1_000_000_000 }
+{
+    Moment(time.duration_since(UNIX_EPOCH).unwrap().as_secs())
 }

@@ -1,4 +1,6 @@
 ghost use Rattle.std.specs.Prelude.{◌≡◌, ◌≤◌, ◌<◌, false, [], ⊤, length, IfOk};
+ghost use Rattle.std.specs.Io.KnownBytes.{WriteAppends};
+ghost use Rattle.room_base.specs.Faults.{HasCause};
 
 use crate::calls::risen_count;
 use crate::{Failed, Sink};
@@ -32,7 +34,13 @@ impl<W: Write> Sink for StdSink<W> {
 
     ghost puts_then = { λ _ _ _ _ _. tt };
 
-    fn put(&mut self, bytes: &[u8]) -> Result<u64, Failed> {
+    fn put(&mut self, bytes: &[u8]) -> Result<u64, Failed>
+        ensures within { IfOk result (λ count. count ≤ length bytes.now) }
+        ensures some { 0 < length bytes.now → IfOk result (λ count. 0 < count) }
+        ensures cause { HasCause self.old.faults self.new.faults result }
+        ensures added { WriteAppends (W.contents self.old.writer) (W.contents self.new.writer)
+            result bytes.now }
+    {
         if bytes.is_empty() {
             return Ok(0);
         }
@@ -47,6 +55,7 @@ impl<W: Write> Sink for StdSink<W> {
 fn write_some<W: Write>(writer: &mut W, bytes: &[u8]) -> Result<u64, Failed>
     ensures within { IfOk result (λ count. count ≤ length bytes.now) }
     ensures some { IfOk result (λ count. 0 < count) }
+    ensures added { WriteAppends (W.contents writer.old) (W.contents writer.new) result bytes.now }
 {
     for _ in 0..TRIES {
         match writer.write(bytes) {

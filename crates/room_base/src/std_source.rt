@@ -1,4 +1,6 @@
 ghost use Rattle.std.specs.Prelude.{◌≡◌, ◌≤◌, false, [], ⊤, length, IfOk};
+ghost use Rattle.std.specs.Io.KnownBytes.{ReadConsumes};
+ghost use Rattle.room_base.specs.Faults.{HasCause};
 
 use crate::calls::risen_count;
 use crate::{Failed, Source};
@@ -31,7 +33,12 @@ impl<R: Read> Source for StdSource<R> {
 
     ghost takes_then = { λ _ _ _ _ _. tt };
 
-    fn take(&mut self, into: &mut [u8]) -> Result<u64, Failed> {
+    fn take(&mut self, into: &mut [u8]) -> Result<u64, Failed>
+        ensures within { IfOk result (λ count. count ≤ length into.old) }
+        ensures cause { HasCause self.old.faults self.new.faults result }
+        ensures given { ReadConsumes (R.remaining self.old.reader) (R.remaining self.new.reader)
+            result into.new }
+    {
         let read = read_some(&mut self.reader, into);
         if read.is_err() {
             self.faults = risen_count(self.faults);
@@ -41,7 +48,8 @@ impl<R: Read> Source for StdSource<R> {
 }
 
 fn read_some<R: Read>(reader: &mut R, into: &mut [u8]) -> Result<u64, Failed>
-    ensures { IfOk result (λ count. count ≤ length into.old) }
+    ensures within { IfOk result (λ count. count ≤ length into.old) }
+    ensures given { ReadConsumes (R.remaining reader.old) (R.remaining reader.new) result into.new }
 {
     for _ in 0..TRIES {
         match reader.read(into) {

@@ -35,8 +35,7 @@ loop-part-preserved g c =
       cause = c.in_ok-write_all.ensures.cause;
       tells = c.in_ok-write_all.ensures.tells;
       written = c.in_ok-write_all.ensures.written;
-    } in
-    (
+    } in (
       next_item text_of parts i nothing _ mid new c.loop-part-test.true c.loop-part.invariant.0 wrote,
       g.met.W.Sink.puts_then _ _ _ c.loop-part.invariant.1 c.in_ok-write_all.ensures.alone,
     )
