@@ -3,10 +3,12 @@ pub mod Faults
 pub mod Fields
 pub mod Filling
 pub mod Growing
+pub mod Heads
 pub mod Judged
 pub mod Lengths
 pub mod Names
 pub mod OneSpelling
+pub mod SoFar
 pub mod Sound
 pub mod Standing
 pub mod Steps

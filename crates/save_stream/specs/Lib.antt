@@ -1,5 +1,6 @@
 pub mod BadField
 pub mod Fields
+pub mod Heads
 pub mod Reading
 pub mod Spelling
 pub mod Standing

@@ -78,8 +78,8 @@ text_at least most bytes = do
 
 -- ---- the head
 
-unfoldable pub mark_at : ℕ → List ℕ → Part ℕ
-mark_at mark bytes = checked (λ byte. byte == mark) bytes (byte_at bytes)
+unfoldable pub given_byte_at : ℕ → List ℕ → Part ℕ
+given_byte_at given bytes = checked (λ byte. byte == given) bytes (byte_at bytes)
 
 unfoldable pub ssid_at : List ℕ → Part ℕ
 ssid_at bytes = checked (λ ssid. nat_lt 0 ssid) bytes (number_at 8 bytes)
@@ -100,8 +100,8 @@ moment_at least bytes = checked (λ moment. nat_le least moment && nat_le moment
 
 unfoldable pub numbers_at : List ℕ → Part HeadNumbers
 numbers_at bytes = do
-  mark ← mark_at 0x48 bytes
-  ssid ← ssid_at mark.1
+  kind_byte ← given_byte_at 0x48 bytes
+  ssid ← ssid_at kind_byte.1
   base ← base_at ssid.0 ssid.1
   level ← level_at base.0 base.1
   saved ← moment_at 0 level.1
@@ -215,8 +215,8 @@ front_at count last bytes = do
 
 unfoldable pub end_at : ℕ → List ℕ → Part ℕ
 end_at count bytes = do
-  mark ← mark_at 0x45 bytes
-  checked (λ n. n == count) mark.1 (number_at 8 mark.1)
+  kind_byte ← given_byte_at 0x45 bytes
+  checked (λ n. n == count) kind_byte.1 (number_at 8 kind_byte.1)
 
 -- ---- the stream
 

@@ -2,7 +2,7 @@
 use Rattle.std.specs.Prelude.{◌≡◌, length}
 use Rattle.std.specs.Option.{is_some}
 use Rattle.save_stream.specs.declared.state.State.{State}
-use Rattle.save_stream.specs.declared.state.Mark.{Mark}
+use Rattle.save_stream.specs.declared.state.Savepoint.{Savepoint}
 use Rattle.save_stream.specs.Reading.{Reading}
 
 abbrev pub reading_of : State → Reading
@@ -16,10 +16,10 @@ reading_of state = record {
 }
 
 -- what has to be known of a reading, to go back to it
-pub record IsMark (mark : Mark) (reading : Reading) : Type 0 where
-  pub read : mark.read ≡ reading.read
-  pub left : mark.left ≡ reading.left
-  pub ended : mark.ended ≡ reading.ended
-  pub head : mark.has_head ≡ is_some reading.head
-  pub count : mark.count ≡ length reading.entries
-  pub pending : mark.pending.items ≡ reading.pending
+pub record IsSavepoint (savepoint : Savepoint) (reading : Reading) : Type 0 where
+  pub read : savepoint.read ≡ reading.read
+  pub left : savepoint.left ≡ reading.left
+  pub ended : savepoint.ended ≡ reading.ended
+  pub head : savepoint.has_head ≡ is_some reading.head
+  pub count : savepoint.count ≡ length reading.entries
+  pub pending : savepoint.pending.items ≡ reading.pending

@@ -1,11 +1,13 @@
 //! Reads a stream that comes in pieces.
 
-ghost use Rattle.std.specs.Prelude.{◌≡◌, ◌+◌, ◌≤◌, ◌^◌, length, IfOk, OnErr, option_copied};
-ghost use Rattle.save_stream.specs.Spelling.{IsHead, head_text};
+ghost use Rattle.std.specs.Prelude.{◌≡◌, ◌+◌, ◌≤◌, ◌^◌, length, true, IfOk, OnErr, option_copied};
+ghost use Rattle.save_stream.specs.Fields.{IsIndex};
+ghost use Rattle.save_stream.specs.Spelling.{IsHead, PathsAscend, head_text};
 ghost use Rattle.save_stream.specs.Reading.{FollowsReading, start, behind_head, reads};
+ghost use Rattle.save_stream.specs.Standing.{IsStreamSoFar};
 ghost use Rattle.save_stream.specs.View.{reading_of};
 
-use crate::encode::HEAD_SIZE;
+use crate::encode::head_length;
 use crate::state::State;
 use crate::{IndexEntry, SetHead, StreamFault};
 use room_base::Memory;
@@ -30,6 +32,10 @@ impl Model for StreamReader {
     ghost use Rattle.save_stream.specs.View.{reading_of};
 
     ghost view = { λ reader. reading_of reader.state };
+
+    ghost use Rattle.save_stream.specs.Standing.{IsStreamSoFar};
+
+    ghost invariant = { λ reader. IsStreamSoFar (reading_of reader.state) };
 }
 
 impl StreamReader {
@@ -45,11 +51,12 @@ impl StreamReader {
         requires { IsHead head }
         ensures { IfOk result (λ reader. reader ≡ behind_head (length (head_text head)) head) }
     {
-        let read = head_size(&head);
+        let read = head_length(&head.parts());
         StreamReader::from(alloc, read, Some(head))
     }
 
     fn from(alloc: Global, read: u64, head: Option<SetHead>) -> Result<StreamReader, Memory>
+        requires { IsStreamSoFar (record start { read = read; head = head }) }
         ensures { IfOk result (λ reader. reader ≡ record start { read = read; head = head }) }
     {
         let state = State {
@@ -69,11 +76,11 @@ impl StreamReader {
         ensures read { FollowsReading (reads self.old piece.now) result self.new }
         ensures err { OnErr result (self.new ≡ self.old) }
     {
-        let mark = self.state.mark(self.alloc)?;
+        let savepoint = self.state.savepoint(self.alloc)?;
         match self.state.take(self.alloc, piece) {
             Ok(()) => Ok(()),
             Err(fault) => {
-                self.state.go_back(mark);
+                self.state.go_back(savepoint);
                 Err(fault)
             }
         }
@@ -95,9 +102,21 @@ impl StreamReader {
 
     /// The entries that were read, up to the bytes of their files.
     pub fn entries(&self) -> &[IndexEntry]
-        ensures { result.now ≡ self.now.entries }
+        ensures value { result.now ≡ self.now.entries }
+        ensures order { PathsAscend result.now }
     {
         &self.state.entries
+    }
+
+    /// Hands over the index of a stream that has ended.
+    pub fn into_entries(self) -> Vec<IndexEntry>
+        requires { self.ended ≡ true }
+        ensures value { result.items ≡ self.entries }
+        ensures order { PathsAscend result.items }
+        ensures index { IsIndex result.items }
+    {
+        let state = self.state;
+        state.entries
     }
 
     /// How many bytes of the stream were read, with those of a head that was given.
@@ -106,16 +125,4 @@ impl StreamReader {
     {
         self.state.read
     }
-}
-
-// How many bytes the text of a head has.
-fn head_size(head: &SetHead) -> u64
-    requires { IsHead head.now }
-    ensures { result ≡ length (head_text head.now) }
-{
-    let client = head.client.as_bytes().len();
-    let set = head.set.as_bytes().len();
-    let group = head.group.as_bytes().len();
-    let pool = head.pool.as_bytes().len();
-    (HEAD_SIZE + client + set + group + pool) as u64
 }

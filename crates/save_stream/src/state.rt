@@ -3,9 +3,9 @@
 ghost use Rattle.std.specs.Prelude.{◌≡◌, ◌+◌, ◌<◌, ◌≤◌, ◌^◌, length, IfOk, None};
 ghost use Rattle.save_stream.specs.Reading.{Reading, FollowsReading, FollowsFront, Keeps, settle, settled, settle_rest, with_head, with_entry, with_end, entry_from, last_path, reads, read_alone, head_at, front_at, end_at, begins_end, Stopped};
 ghost use Rattle.save_stream.specs.Texts.{front_from};
-ghost use Rattle.save_stream.specs.View.{reading_of, IsMark};
+ghost use Rattle.save_stream.specs.View.{reading_of, IsSavepoint};
 
-use crate::entry_reading::{END_MARK, EntryFront, end_of, front_of};
+use crate::entry_reading::{END_KIND, EntryFront, end_of, front_of};
 use crate::head_reading::head_of;
 use crate::stop::Stop;
 use crate::{EntryKind, IndexEntry, MAX_ENTRIES, SetHead, StreamFault};
@@ -28,7 +28,7 @@ pub(crate) struct State {
 
 /// What a reader has to know of its state before a piece, to go back to it.
 #[derive(Debug, Drop)]
-pub(crate) struct Mark {
+pub(crate) struct Savepoint {
     read: u64,
     left: u64,
     ended: bool,
@@ -39,10 +39,10 @@ pub(crate) struct Mark {
 }
 
 impl State {
-    pub(crate) fn mark(&self, alloc: Global) -> Result<Mark, AllocError>
-        ensures { IfOk result (λ mark. IsMark mark (reading_of self.now)) }
+    pub(crate) fn savepoint(&self, alloc: Global) -> Result<Savepoint, AllocError>
+        ensures { IfOk result (λ savepoint. IsSavepoint savepoint (reading_of self.now)) }
     {
-        Ok(Mark {
+        Ok(Savepoint {
             read: self.read,
             left: self.left,
             ended: self.ended,
@@ -53,15 +53,15 @@ impl State {
     }
 
     /// Goes back to what the state was, when a part of a piece was taken since.
-    pub(crate) fn go_back(&mut self, mark: Mark)
-        ensures { (old : Reading) → IsMark mark old → Keeps old (reading_of self.old) → reading_of self.new ≡ old }
+    pub(crate) fn go_back(&mut self, savepoint: Savepoint)
+        ensures { (old : Reading) → IsSavepoint savepoint old → Keeps old (reading_of self.old) → reading_of self.new ≡ old }
     {
-        self.read = mark.read;
-        self.left = mark.left;
-        self.ended = mark.ended;
-        self.pending = mark.pending;
-        self.entries.truncate(mark.count);
-        if !mark.has_head {
+        self.read = savepoint.read;
+        self.left = savepoint.left;
+        self.ended = savepoint.ended;
+        self.pending = savepoint.pending;
+        self.entries.truncate(savepoint.count);
+        if !savepoint.has_head {
             self.head = None;
         }
     }
@@ -122,7 +122,7 @@ impl State {
         ensures { result ≡ begins_end self.now.pending.items }
     {
         match self.pending.as_slice() {
-            [first, ..] => *first == END_MARK,
+            [first, ..] => *first == END_KIND,
             [] => false,
         }
     }
@@ -135,7 +135,7 @@ impl State {
         ensures count { self.new.read ≡ self.old.read }
     {
         match head_of(alloc, &self.pending) {
-            Ok(head) => {
+            Ok((head, _)) => {
                 self.head = Some(head);
                 self.pending.clear();
                 Ok(())
