@@ -1,5 +1,5 @@
 -- Heads at the front of bytes.
-use Rattle.std.proofs.Common.{◌≡◌, ℕ, ◌+◌, ◌-◌, ◌≤◌, List, [], ◌∷◌, ◌++◌, length, Result, Ok, Err, refl, sym, ap, subst, ◌∙◌, arith, inl, inr}
+use Rattle.std.proofs.Common.{◌≡◌, ℕ, ◌-◌, ◌≤◌, List, ◌++◌, length, Result, Ok, Err, refl, sym, ap, subst, ◌∙◌, arith, inl, inr}
 use Rattle.std.specs.Prelude.{◌⊎◌}
 use Rattle.std.proofs.lemmas.List.{length-append, append_cancel_left}
 use Rattle.save_stream.specs.declared.fault.HeadFault.{HeadFault}
@@ -7,7 +7,7 @@ use Rattle.save_stream.specs.declared.fault.HeadFault.TheVariants as faults
 use Rattle.save_stream.specs.declared.head.SetHead.{SetHead}
 use Rattle.save_stream.specs.declared.stop.Stop.TheVariants as stops
 use Rattle.save_stream.specs.BadField.{head_fields, no_field}
-use Rattle.save_stream.specs.Heads.{HasBadHead, EndsInHead, BeginsWith, ReadsHead}
+use Rattle.save_stream.specs.Heads.{HasBadHead, BeginsWith, ReadsHead}
 use Rattle.save_stream.specs.Reading.{Part, head_at}
 use Rattle.save_stream.specs.Spelling.{IsHead, head_text}
 use Rattle.save_stream.proofs.Again.{head-again}

@@ -1,5 +1,5 @@
 -- What a reader has read is a stream so far.
-use Rattle.std.proofs.Common.{◌≡◌, ℕ, ◌+◌, ◌≤◌, ◌⊎◌, Bool, true, false, List, [], ◌∷◌, ◌++◌, length, Option, Some, None, Result, Ok, Err, refl, sym, ap, subst, ◌∙◌, append_assoc, arith, inl, inr}
+use Rattle.std.proofs.Common.{◌≡◌, ℕ, ◌+◌, ◌≤◌, ◌⊎◌, Bool, true, false, List, [], ◌∷◌, ◌++◌, length, Option, Some, None, Result, Ok, Err, refl, sym, ap, subst, ◌∙◌, arith, inl, inr}
 use Rattle.std.specs.Prelude.{replicate}
 use Rattle.std.proofs.lemmas.List.{length-append, append-nil, length-replicate}
 use Rattle.save_stream.specs.declared.entry.IndexEntry.{IndexEntry}
@@ -7,10 +7,12 @@ use Rattle.save_stream.specs.declared.fault.StreamFault.{StreamFault}
 use Rattle.save_stream.specs.declared.fault.StreamFault.TheVariants as faults
 use Rattle.save_stream.specs.declared.head.SetHead.{SetHead}
 use Rattle.save_stream.specs.BadField.{HasBadField, HasEntryTooMany}
-use Rattle.save_stream.specs.Fields.{StreamIndex, IsIndex}
+use Rattle.save_stream.specs.Fields.{IsIndex}
+use Rattle.save_stream.specs.declared.stop.Stop.TheVariants as stops
+use Rattle.save_stream.specs.Items.{Head, Entry, End, as_item, rest_at, item_at, IsWaiting}
 use Rattle.save_stream.specs.Spelling.{IsHead, Saved, Ascend, PathsAscendFrom, PathsAscend, max_entries, max_size, head_text, entry_text, index_from}
-use Rattle.save_stream.specs.Reading.{Reading, start, behind_head, reads, then_reads}
-use Rattle.save_stream.specs.Standing.{AreBytes, IsAllowed, IsWhole, Behind, StandsAt, Stands, HasReadText, IsStreamSoFar}
+use Rattle.save_stream.specs.Reading.{Reading, start, behind_head, reads, then_reads, begins_end}
+use Rattle.save_stream.specs.Standing.{AreBytes, WaitsIf, WaitsAt, IsAllowed, IsWhole, StandsAt, Stands, IsStreamSoFar}
 use Rattle.save_stream.proofs.Faults.{HasFault, has-fault}
 use Rattle.save_stream.proofs.Fields.{has-read}
 use Rattle.save_stream.proofs.Lengths.{length-head_text}
@@ -18,7 +20,7 @@ use Rattle.save_stream.proofs.OneSpelling.{reads-append}
 use Rattle.save_stream.proofs.Steps.{done, not-done, start-holds, head-holds, reads-holds, reads-stand}
 use Rattle.save_stream.proofs.Stopping.{bad-is-fault, many-is-fault}
 use Rattle.save_stream.proofs.Streams.{stream-is-read}
-use Rattle.save_stream.proofs.Whole.{reads-head}
+use Rattle.save_stream.proofs.Whole.{reads-head, length-index_from}
 
 -- ---- texts that are allowed
 
@@ -111,3 +113,31 @@ pub ended-index : (reading : Reading) → IsStreamSoFar reading → reading.ende
 ended-index reading is ended =
     let has = has-read is.0 reading is.1.holds.stands ended is.1.size in
     (is.0, (has.0, (has.1.0, has.1.1.spelled, has.1.1.index_is)))
+
+-- ---- what is pending
+
+rest-item-waits : (test : Bool) (entries : List IndexEntry) (pending : List ℕ) → WaitsIf test entries pending → rest_at test entries pending ≡ Err stops.More
+rest-item-waits true entries pending waits = ap (as_item End) waits
+rest-item-waits false entries pending waits = ap (as_item Entry) waits
+
+item-waits-at : (head : Option SetHead) (reading : Reading) → WaitsAt head reading → reading.ended ≡ false → item_at head reading.entries reading.pending ≡ Err stops.More
+item-waits-at None reading waits going = ap (as_item Head) waits
+item-waits-at (Some head) reading waits going = rest-item-waits (begins_end reading.pending) reading.entries reading.pending (waits going)
+
+count-at : (head : Option SetHead) (text : List ℕ) (reading : Reading) → StandsAt head text reading → length reading.entries ≤ max_entries
+count-at None text reading at = omega (arith, ap (λ (es : List IndexEntry). length es) at.none.1)
+count-at (Some head) text reading at =
+    let spelled = at.spelled (replicate reading.left 0) (length-replicate reading.left 0) in
+    omega (
+      arith,
+      spelled.1.count,
+      ap (λ (es : List IndexEntry). length es) spelled.1.index_is,
+      length-index_from (length (head_text head)) spelled.0,
+    )
+
+pub so-far-waits : (reading : Reading) → IsStreamSoFar reading → IsWaiting reading
+so-far-waits reading is = record {
+  waits = item-waits-at reading.head reading is.1.holds.waits;
+  bytes = is.1.holds.bytes;
+  count = count-at reading.head is.0 reading is.1.holds.stands.at;
+}

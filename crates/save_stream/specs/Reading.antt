@@ -337,22 +337,6 @@ abbrev pub KeepsHead : Option SetHead → Option SetHead → Type 0
 KeepsHead None new = Unit {0}
 KeepsHead (Some head) new = new ≡ Some head
 
--- what was read stays, and more may have come
-pub record Keeps (old new : Reading) : Type 0 where
-  pub head : KeepsHead old.head new.head
-  pub entries : (more : List IndexEntry) × (new.entries ≡ old.entries ++ more)
-
--- what it means that the bytes before byte `read` weren't read to the end of a head, an entry or an end
-abbrev pub Stopped : {T : Type 0} → Stop → ℕ → Result T StreamFault → Type 0
-Stopped stops.More read (Ok _) = Unit {0}
-Stopped stops.More read (Err fault) = ⊥
-Stopped (stops.Wrong behind) read (Ok _) = ⊥
-Stopped (stops.Wrong behind) read (Err fault) = fault ≡ faults.Bad (read - behind)
-Stopped stops.Full read (Ok _) = ⊥
-Stopped stops.Full read (Err fault) = fault ≡ faults.TooMany max_entries
-Stopped stops.Memory read (Ok _) = ⊥
-Stopped stops.Memory read (Err fault) = fault ≡ faults.Memory
-
 -- behind a head and whole entries
 abbrev pub between : SetHead → ℕ → List IndexEntry → Reading
 between head read entries = record { read = read; left = 0; ended = false; head = Some head; entries = entries; pending = [] }

@@ -12,6 +12,7 @@ mod head;
 mod head_reading;
 mod laws;
 mod level;
+mod progress;
 mod reader;
 mod state;
 mod stop;

@@ -8,14 +8,12 @@ ghost use Rattle.save_stream.specs.Standing.{IsStreamSoFar};
 ghost use Rattle.save_stream.specs.View.{reading_of};
 
 use crate::encode::head_length;
-use crate::state::State;
+use crate::progress::Progress;
+use crate::state::{MAX_PENDING, State};
 use crate::{IndexEntry, SetHead, StreamFault};
 use room_base::Memory;
 use std::alloc::Global;
 use std::marker::Model;
-
-/// The most bytes of a head, an entry or an end that isn't complete: an entry of a file lacks a byte.
-const MAX_PENDING: usize = 1043;
 
 /// Reads the stream of a save set, which may come in any pieces. Contracts see what it has read.
 #[derive(Debug, Drop)]
@@ -59,13 +57,17 @@ impl StreamReader {
         requires { IsStreamSoFar (record start { read = read; head = head }) }
         ensures { IfOk result (λ reader. reader ≡ record start { read = read; head = head }) }
     {
-        let state = State {
+        let progress = Progress {
             read,
             left: 0,
             ended: false,
             head,
             entries: Vec::new(alloc),
+        };
+        let state = State {
+            progress,
             pending: Vec::with_capacity(alloc, MAX_PENDING)?,
+            done: 0,
         };
         Ok(StreamReader { alloc, state })
     }
@@ -76,7 +78,7 @@ impl StreamReader {
         ensures read { FollowsReading (reads self.old piece.now) result self.new }
         ensures err { OnErr result (self.new ≡ self.old) }
     {
-        let savepoint = self.state.savepoint(self.alloc)?;
+        let savepoint = self.state.savepoint();
         match self.state.take(self.alloc, piece) {
             Ok(()) => Ok(()),
             Err(fault) => {
@@ -90,14 +92,14 @@ impl StreamReader {
     pub fn ended(&self) -> bool
         ensures { result ≡ self.now.ended }
     {
-        self.state.ended
+        self.state.progress.ended
     }
 
     /// The head of the stream, once it was read.
     pub fn head(&self) -> Option<&SetHead>
         ensures { option_copied result ≡ self.now.head }
     {
-        self.state.head.as_ref()
+        self.state.progress.head.as_ref()
     }
 
     /// The entries that were read, up to the bytes of their files.
@@ -105,7 +107,7 @@ impl StreamReader {
         ensures value { result.now ≡ self.now.entries }
         ensures order { PathsAscend result.now }
     {
-        &self.state.entries
+        &self.state.progress.entries
     }
 
     /// Hands over the index of a stream that has ended.
@@ -116,13 +118,14 @@ impl StreamReader {
         ensures index { IsIndex result.items }
     {
         let state = self.state;
-        state.entries
+        let progress = state.progress;
+        progress.entries
     }
 
     /// How many bytes of the stream were read, with those of a head that was given.
     pub fn read(&self) -> u64
         ensures { result ≡ self.now.read }
     {
-        self.state.read
+        self.state.progress.read
     }
 }

@@ -1,4 +1,4 @@
-use Rattle.std.proofs.Common.{Bool, true, ap, sym, ◌∙◌}
+use Rattle.std.proofs.Common.{ap, ◌∙◌}
 use Rattle.save_stream.specs.Reading.{Reading}
 use Rattle.save_stream.specs.View.{reading_of}
 use Rattle.save_stream.proofs.SoFar.{so-far-ascend, ended-index}
