@@ -15,7 +15,7 @@ use Rattle.save_stream.specs.declared.head_reading.HeadNumbers.{HeadNumbers}
 use Rattle.std.specs.Ordering.{is_lt}
 use Rattle.save_stream.specs.declared.head.SetHead.{SetHead}
 use Rattle.save_stream.specs.Spelling.{max_entries, max_size, IsHead, IsBelow, number_text, short_number_text, short_text, long_text, head_numbers, head_text, entry_front, end_text}
-use Rattle.save_stream.specs.Reading.{Part, ◌>>=◌, checked, number_at, bytes_at, is_printable, is_name, text_at, mark_at, ssid_at, base_at, is_level, level_at, moment_at, numbers_at, names_at, head_at, kind_at, is_path, is_below, path_at, front_at, end_at, HeadNames}
+use Rattle.save_stream.specs.Reading.{Part, ◌>>=◌, checked, number_at, bytes_at, is_printable, is_name, text_at, given_byte_at, ssid_at, base_at, is_level, level_at, moment_at, numbers_at, names_at, head_at, kind_at, is_path, is_below, path_at, front_at, end_at, HeadNames}
 
 -- ---- fields
 
@@ -69,9 +69,9 @@ text-again least most text rest low high is =
     (both _ _ (le-leb least (length text) low) (le-leb (length text) most high)))
     ∙ allowed-again is_name (text ++ rest) (bytes_at (length text) (text ++ rest)) text rest (bytes-again text rest) (is_name-again text is)
 
-pub mark-again : (mark : ℕ) (rest : List ℕ) → mark_at mark (mark ∷ rest) ≡ Ok (mark, rest)
-unfolding mark_at
-mark-again mark rest = allowed-again (λ byte. eqb byte mark) (mark ∷ rest) (Ok (mark, rest)) mark rest refl (eq-eqb mark mark refl)
+pub given_byte-again : (given : ℕ) (rest : List ℕ) → given_byte_at given (given ∷ rest) ≡ Ok (given, rest)
+unfolding given_byte_at
+given_byte-again given rest = allowed-again (λ byte. eqb byte given) (given ∷ rest) (Ok (given, rest)) given rest refl (eq-eqb given given refl)
 
 -- ---- the head
 
@@ -118,7 +118,7 @@ numbers-again head rest is =
     let at-base = number_text head.base.0 ++ at-level in
     let at-ssid = number_text head.ssid.0 ++ at-base in
     ap numbers_at (regrouped (0x48 ∷ []) (number_text head.ssid.0) (number_text head.base.0) (head.level ∷ []) (number_text head.saved.0) (number_text head.browse.0) (number_text head.retain.0) rest)
-    ∙ then-again _ _ _ _ _ (mark-again 0x48 at-ssid)
+    ∙ then-again _ _ _ _ _ (given_byte-again 0x48 at-ssid)
     (then-again _ _ _ _ _ (ssid-again head.ssid.0 at-base is.ssid.0 is.ssid.1)
     (then-again _ _ _ _ _ (base-again head.ssid.0 head.base.0 at-level is.base is.ssid.1)
     (then-again _ _ _ _ _ (level-again head.base.0 head.level at-saved is.level is.full)
@@ -153,10 +153,10 @@ first-is : (text : List ℕ) (byte : ℕ) → slice_get text 0 ≡ Some byte →
 first-is [] byte is = absurd cc
 first-is (first ∷ rest) byte is = cc
 
-kind_byte : EntryKind → ℕ
-kind_byte kinds.File = 0x46
-kind_byte kinds.Folder = 0x44
-kind_byte kinds.Gone = 0x47
+byte_of_kind : EntryKind → ℕ
+byte_of_kind kinds.File = 0x46
+byte_of_kind kinds.Folder = 0x44
+byte_of_kind kinds.Gone = 0x47
 
 pub is_path-again : (text : List ℕ) → IsPathText text → is_path text ≡ true
 unfolding is_path
@@ -174,8 +174,8 @@ path-again last path rest fits is below =
     (both _ _ (lt-ltb 0 (length path) fits.0) (le-leb (length path) 1024 fits.1)))
     (allowed-again (λ p. is_path p && is_below last p) (path ++ rest) _ path rest (bytes-again path rest) (both _ _ (is_path-again path is) (is_below-again last path below)))
 
-kind-again : (count : ℕ) (kind : EntryKind) (rest : List ℕ) → count < max_entries → kind_at count (kind_byte kind ∷ rest) ≡ Ok (kind, rest)
-unfolding kind_at kind_byte
+kind-again : (count : ℕ) (kind : EntryKind) (rest : List ℕ) → count < max_entries → kind_at count (byte_of_kind kind ∷ rest) ≡ Ok (kind, rest)
+unfolding kind_at byte_of_kind
 kind-again count kinds.File rest room = let is : nat_lt count max_entries ≡ true = lt-ltb _ _ room in rw is refl
 kind-again count kinds.Folder rest room = let is : nat_lt count max_entries ≡ true = lt-ltb _ _ room in rw is refl
 kind-again count kinds.Gone rest room = let is : nat_lt count max_entries ≡ true = lt-ltb _ _ room in rw is refl
@@ -183,7 +183,7 @@ kind-again count kinds.Gone rest room = let is : nat_lt count max_entries ≡ tr
 pub end-again : (count : ℕ) (rest : List ℕ) → count < 2 ^ 64 → end_at count (end_text count ++ rest) ≡ Ok (count, rest)
 unfolding end_at
 end-again count rest fits =
-    then-again _ _ _ _ _ (mark-again 0x45 (number_text count ++ rest))
+    then-again _ _ _ _ _ (given_byte-again 0x45 (number_text count ++ rest))
     (allowed-again (λ n. eqb n count) _ _ count rest (number-again count rest fits) (eq-eqb count count refl))
 
 -- what an entry of a kind may have before its file's bytes
@@ -198,7 +198,7 @@ file_parts a b c d rest = simp append_assoc
 pub front-again : (count : ℕ) (last : List ℕ) (kind : EntryKind) (path : List ℕ) (mtime size : ℕ) (rest : List ℕ) → count < max_entries
     → HasLength 1024 path → IsPathText path → IsBelow last path → FitsKind kind mtime size
     → front_at count last (entry_front kind path mtime size ++ rest) ≡ Ok (record { kind = kind; path = path; mtime = mtime; size = size }, rest)
-unfolding front_at kind_byte
+unfolding front_at byte_of_kind
 front-again count last kinds.File path mtime size rest room fits is below fields =
     ap (front_at count last) (file_parts (0x46 ∷ []) (long_text path) (number_text mtime) (number_text size) rest)
     ∙ then-again _ _ _ _ _ (kind-again count kinds.File _ room)

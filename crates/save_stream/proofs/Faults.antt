@@ -35,8 +35,8 @@ pub record At (text : List ℕ) (reading : Reading) : Type 0 where
 -- what a fault says of a stream
 abbrev pub HasFault : List ℕ → StreamFault → Type 0
 HasFault stream (faults.Bad offset) = HasBadField stream offset
-HasFault stream (faults.TooMany limit) = (limit ≡ max_entries) × HasEntryTooMany stream
-HasFault stream faults.Memory = Unit {0}
+HasFault stream (faults.TooMany limit) = (limit ≡ max_entries) × ((offset : ℕ) × HasEntryTooMany stream offset)
+HasFault stream faults.Memory = ⊥
 
 -- the pending bytes begin one more entry than there may be
 abbrev Overfull : Reading → Type 0
@@ -105,32 +105,36 @@ settled-after text byte made now (Err (stops.Wrong behind)) whole Bad Next is re
       first_bad = fields before bad follows.1.1.3;
     }
 settled-after text byte made now (Err stops.Full) whole Bad Next is read parts count begun empties fields follows finds =
-    let mark = finds.1.0 in
+    let kind_byte = finds.1.0 in
     let rest = finds.1.1.0 in
     λ more. (
       refl,
-      record {
-        whole = whole;
-        reading = record now { read = length whole; pending = [] };
-        mark = mark;
-        rest = rest ++ more;
-        parts = sym (append_assoc text (byte ∷ []) more) ∙ ap (λ (t : List ℕ). t ++ more) (parts ∙ ap (λ (p : List ℕ). whole ++ p) finds.1.1.1)
-            ∙ append_assoc whole (mark ∷ rest) more;
-        read = read;
-        idle = (refl, begun.0);
-        going = (begun.1, finds.0);
-        full = finds.1.1.3;
-        begins = finds.1.1.2;
-      },
+      (
+        length whole,
+        record {
+          whole = whole;
+          reading = record now { read = length whole; pending = [] };
+          kind_byte = kind_byte;
+          rest = rest ++ more;
+          offset_is = refl;
+          parts = sym (append_assoc text (byte ∷ []) more) ∙ ap (λ (t : List ℕ). t ++ more) (parts ∙ ap (λ (p : List ℕ). whole ++ p) finds.1.1.1)
+              ∙ append_assoc whole (kind_byte ∷ rest) more;
+          read = read;
+          idle = (refl, begun.0);
+          going = (begun.1, finds.0);
+          full = finds.1.1.3;
+          begins = finds.1.1.2;
+        },
+      ),
     )
-settled-after text byte made now (Err stops.Memory) whole Bad Next is read parts count begun empties fields follows finds = λ more. tt
+settled-after text byte made now (Err stops.Memory) whole Bad Next is read parts count begun empties fields follows finds = absurd finds
 
 finds-also : {X : Type 0} (P Over : Type 0) (part : Part X) → P → Finds Over part → Finds (P × Over) part
 finds-also P Over (Ok x) p finds = tt
 finds-also P Over (Err stops.More) p finds = tt
 finds-also P Over (Err (stops.Wrong behind)) p finds = tt
 finds-also P Over (Err stops.Full) p finds = (p, finds)
-finds-also P Over (Err stops.Memory) p finds = tt
+finds-also P Over (Err stops.Memory) p finds = finds
 
 abbrev standing : ℕ → ℕ → Bool → Option SetHead → List IndexEntry → List ℕ → Reading
 standing read left ended head entries pending = record { read = read; left = left; ended = ended; head = head; entries = entries; pending = pending }

@@ -92,7 +92,7 @@ fields-read text head entries reading read index =
     ∙ ap (λ (n : ℕ). record { head = head; files = n; bytes = length text; digest = body })
     (ap (λ (es : List IndexEntry). length es) index ∙ length-index_from (length (head_text head)) entries)
 
-has-read : (text : List ℕ) (reading : Reading) → Stands text reading → reading.ended ≡ true → length text ≤ max_size
+pub has-read : (text : List ℕ) (reading : Reading) → Stands text reading → reading.ended ≡ true → length text ≤ max_size
     → (head : SetHead) × ((entries : List Saved) × HasRead text head entries reading)
 has-read text reading stands ended size =
     let end = end-is text reading.head reading.read reading.left reading.ended reading.entries reading.pending size stands.at ended in
@@ -120,7 +120,7 @@ head-in (Ok x) other = x.0
 head-in (Err stop) other = other
 
 -- a text that begins with the texts of two heads
-one-head : (head other : SetHead) (more rest : List ℕ) → IsHead head → IsHead other → head_text head ++ more ≡ head_text other ++ rest → head ≡ other
+pub one-head : (head other : SetHead) (more rest : List ℕ) → IsHead head → IsHead other → head_text head ++ more ≡ head_text other ++ rest → head ≡ other
 unfolding head-in
 one-head head other more rest one two is =
     sym (ap (λ (p : Part SetHead). head-in p other) (head-again head more one)) ∙ ap (λ (t : List ℕ). head-in (head_at t) other) is

@@ -7,7 +7,7 @@ use Rattle.save_stream.specs.declared.entry.EntryKind.{EntryKind}
 use Rattle.save_stream.specs.declared.entry.EntryKind.TheVariants as kinds
 use Rattle.save_stream.specs.declared.stop.Stop.TheVariants as stops
 use Rattle.save_stream.specs.Spelling.{max_entries}
-use Rattle.save_stream.specs.Reading.{Part, ◌>>=◌, checked, byte_at, number_at, bytes_at, is_name, text_at, mark_at, ssid_at, base_at, level_at, moment_at, numbers_at, names_at, head_at, kind_of, kind_among, kind_at, path_at, mtime_at, size_at, front_at, end_at}
+use Rattle.save_stream.specs.Reading.{Part, ◌>>=◌, checked, byte_at, number_at, bytes_at, is_name, text_at, given_byte_at, ssid_at, base_at, level_at, moment_at, numbers_at, names_at, head_at, kind_of, kind_among, kind_at, path_at, mtime_at, size_at, front_at, end_at}
 
 abbrev pub Extends : {X : Type 0} → List ℕ → Part X → Part X → Type 0
 Extends more (Ok x) part = part ≡ Ok (x.0, x.1 ++ more)
@@ -98,9 +98,9 @@ text-grows least most bytes more =
     then-grows more _ _ _ (checked-grows _ bytes more _ _ (byte-grows bytes more))
     (λ size rest. checked-grows is_name rest more _ _ (bytes-grows size rest more))
 
-pub mark-grows : (mark : ℕ) → Grows (mark_at mark)
-unfolding mark_at
-mark-grows mark bytes more = checked-grows _ bytes more _ _ (byte-grows bytes more)
+pub given_byte-grows : (kind_byte : ℕ) → Grows (given_byte_at kind_byte)
+unfolding given_byte_at
+given_byte-grows kind_byte bytes more = checked-grows _ bytes more _ _ (byte-grows bytes more)
 
 -- ---- the head
 
@@ -123,8 +123,8 @@ moment-grows least bytes more = checked-grows _ bytes more _ _ (number-grows 8 b
 numbers-grows : Grows numbers_at
 unfolding numbers_at
 numbers-grows bytes more =
-    then-grows more _ _ _ (mark-grows 0x48 bytes more)
-    (λ mark rest. then-grows more _ _ _ (ssid-grows rest more)
+    then-grows more _ _ _ (given_byte-grows 0x48 bytes more)
+    (λ kind_byte rest. then-grows more _ _ _ (ssid-grows rest more)
     (λ ssid rest. then-grows more _ _ _ (base-grows ssid rest more)
     (λ base rest. then-grows more _ _ _ (level-grows base rest more)
     (λ level rest. then-grows more _ _ _ (moment-grows 0 rest more)
@@ -196,5 +196,5 @@ front-grows count last bytes more =
 pub end-grows : (count : ℕ) → Grows (end_at count)
 unfolding end_at
 end-grows count bytes more =
-    then-grows more _ _ _ (mark-grows 0x45 bytes more)
-    (λ mark rest. checked-grows _ rest more _ _ (number-grows 8 rest more))
+    then-grows more _ _ _ (given_byte-grows 0x45 bytes more)
+    (λ kind_byte rest. checked-grows _ rest more _ _ (number-grows 8 rest more))

@@ -13,7 +13,7 @@ use Rattle.save_stream.specs.declared.head.SetHead.{SetHead}
 use Rattle.save_stream.specs.declared.head_reading.HeadNumbers.{HeadNumbers}
 use Rattle.save_stream.specs.declared.stop.Stop.TheVariants as stops
 use Rattle.save_stream.specs.Spelling.{max_entries, max_size, IsBelow}
-use Rattle.save_stream.specs.Reading.{Part, ◌>>=◌, HeadNames, Front, head_from, begins_end, checked, byte_at, number_at, bytes_at, is_name, text_at, mark_at, ssid_at, base_at, is_level, level_at, moment_at, numbers_at, names_at, head_at, kind_of, kind_among, kind_at, is_path, is_below, path_at, mtime_at, size_at, front_at, end_at}
+use Rattle.save_stream.specs.Reading.{Part, ◌>>=◌, HeadNames, Front, head_from, begins_end, checked, byte_at, number_at, bytes_at, is_name, text_at, given_byte_at, ssid_at, base_at, is_level, level_at, moment_at, numbers_at, names_at, head_at, kind_of, kind_among, kind_at, is_path, is_below, path_at, mtime_at, size_at, front_at, end_at}
 use Rattle.save_stream.specs.BadField.{FieldRules, no_field, field, byte, number, text, name, names, head_fields, times, entry_fields, fields_behind, Begins, item_fields}
 use Rattle.save_stream.proofs.Again.{is_name-again, is_level-again, is_path-again, is_below-again, both}
 use Rattle.save_stream.proofs.Sound.{is_name-is, is_level-is, is_path-is, is_below-is, both-true}
@@ -222,11 +222,11 @@ abbrev pub ssid_fields : FieldRules
 ssid_fields = number 8 (λ ssid. 1 ≤ ssid) base_fields
 
 numbers-follow : (bytes : List ℕ) → Follows bytes head_fields (numbers_at bytes) (λ _. names)
-unfolding numbers_at head_fields mark_at ssid_at base_at level_at moment_at
+unfolding numbers_at head_fields given_byte_at ssid_at base_at level_at moment_at
 numbers-follow bytes =
-    then-follows bytes head_fields (mark_at 0x48 bytes) (λ _. ssid_fields) _ (λ _. names)
-    (field-follows 1 (λ bytes. slice_index bytes 0) (λ mark. eqb mark 0x48) (λ mark. mark ≡ 0x48) (λ _. ssid_fields) bytes (byte_at bytes) (same-decides 0x48) (byte-raw bytes))
-    (λ mark rest. then-follows rest ssid_fields (ssid_at rest) base_fields _ (λ _. names)
+    then-follows bytes head_fields (given_byte_at 0x48 bytes) (λ _. ssid_fields) _ (λ _. names)
+    (field-follows 1 (λ bytes. slice_index bytes 0) (λ kind_byte. eqb kind_byte 0x48) (λ kind_byte. kind_byte ≡ 0x48) (λ _. ssid_fields) bytes (byte_at bytes) (same-decides 0x48) (byte-raw bytes))
+    (λ kind_byte rest. then-follows rest ssid_fields (ssid_at rest) base_fields _ (λ _. names)
     (field-follows 8 (big_number 8) (λ ssid. nat_lt 0 ssid) (λ ssid. 1 ≤ ssid) base_fields rest (number_at 8 rest) some-decides (number-raw 8 rest))
     (λ ssid rest. then-follows rest (base_fields ssid) (base_at ssid rest) level_fields _ (λ _. names)
     (field-follows 8 (big_number 8) (λ base. nat_lt base ssid) (λ base. base < ssid) level_fields rest (number_at 8 rest) (base-decides ssid) (number-raw 8 rest))
@@ -256,32 +256,32 @@ head-follows bytes =
 
 -- ---- an entry
 
-pick-follows : (room : Bool) (count : ℕ) (last : List ℕ) (mark : ℕ) (rest : List ℕ) (kind : EntryKind) → kind_of mark ≡ Some kind → nat_lt count max_entries ≡ room
-    → Follows (mark ∷ rest) (item_fields count last) (cond room (Ok (kind, rest)) (Err stops.Full)) (entry_fields last)
+pick-follows : (room : Bool) (count : ℕ) (last : List ℕ) (kind_byte : ℕ) (rest : List ℕ) (kind : EntryKind) → kind_of kind_byte ≡ Some kind → nat_lt count max_entries ≡ room
+    → Follows (kind_byte ∷ rest) (item_fields count last) (cond room (Ok (kind, rest)) (Err stops.Full)) (entry_fields last)
 unfolding item_fields
-pick-follows true count last mark rest kind is room = (
-  mark ∷ [],
+pick-follows true count last kind_byte rest kind is room = (
+  kind_byte ∷ [],
   refl,
   λ before bad next. inr (
-    mark ∷ [],
+    kind_byte ∷ [],
     (
       before,
       refl,
       refl,
-      subst (λ (k : Option EntryKind). Begins k mark) (sym is) tt,
+      subst (λ (k : Option EntryKind). Begins k kind_byte) (sym is) tt,
       subst (λ (k : Option EntryKind). fields_behind count last k before bad) (sym is) (ltb-true count max_entries room, next),
     ),
   ),
 )
-pick-follows false count last mark rest kind is room = tt
+pick-follows false count last kind_byte rest kind is room = tt
 
-among-follows : (count : ℕ) (last : List ℕ) (mark : ℕ) (rest : List ℕ) (kind : Option EntryKind) → kind_of mark ≡ kind → eqb mark 0x45 ≡ false
-    → Follows (mark ∷ rest) (item_fields count last) (kind_among count (length (mark ∷ rest)) kind rest) (entry_fields last)
+among-follows : (count : ℕ) (last : List ℕ) (kind_byte : ℕ) (rest : List ℕ) (kind : Option EntryKind) → kind_of kind_byte ≡ kind → eqb kind_byte 0x45 ≡ false
+    → Follows (kind_byte ∷ rest) (item_fields count last) (kind_among count (length (kind_byte ∷ rest)) kind rest) (entry_fields last)
 unfolding item_fields
-among-follows count last mark rest None is other = (
+among-follows count last kind_byte rest None is other = (
   [],
   (
-    mark ∷ [],
+    kind_byte ∷ [],
     (
       rest,
       refl,
@@ -289,12 +289,12 @@ among-follows count last mark rest None is other = (
       inl (
         refl,
         refl,
-        λ begins. true-is-false (eqb mark 0x45) (subst (λ (m : ℕ). eqb m 0x45 ≡ true) (sym (subst (λ (k : Option EntryKind). Begins k mark) is begins)) refl) other,
+        λ begins. true-is-false (eqb kind_byte 0x45) (subst (λ (m : ℕ). eqb m 0x45 ≡ true) (sym (subst (λ (k : Option EntryKind). Begins k kind_byte) is begins)) refl) other,
       ),
     ),
   ),
 )
-among-follows count last mark rest (Some kind) is other = pick-follows (nat_lt count max_entries) count last mark rest kind is refl
+among-follows count last kind_byte rest (Some kind) is other = pick-follows (nat_lt count max_entries) count last kind_byte rest kind is refl
 
 path-follows : (last : List ℕ) (kind : EntryKind) (bytes : List ℕ) → Follows bytes (entry_fields last kind) (path_at last bytes) (λ _. times kind)
 unfolding path_at entry_fields
@@ -320,15 +320,15 @@ times-follow kinds.Gone path start = done-follows {Y = Front} start (record { ki
 pub front-follows : (count : ℕ) (last bytes : List ℕ) → begins_end bytes ≡ false → Follows bytes (item_fields count last) (front_at count last bytes) (λ _. no_field)
 unfolding front_at kind_at
 front-follows count last [] other = tt
-front-follows count last (mark ∷ bytes) other =
-    then-follows (mark ∷ bytes) (item_fields count last) (kind_at count (mark ∷ bytes)) (entry_fields last) _ (λ _. no_field) (among-follows count last mark bytes (kind_of mark) refl other)
+front-follows count last (kind_byte ∷ bytes) other =
+    then-follows (kind_byte ∷ bytes) (item_fields count last) (kind_at count (kind_byte ∷ bytes)) (entry_fields last) _ (λ _. no_field) (among-follows count last kind_byte bytes (kind_of kind_byte) refl other)
     (λ kind rest. then-follows rest (entry_fields last kind) (path_at last rest) (λ _. times kind) _ (λ _. no_field) (path-follows last kind rest)
     (λ path rest. times-follow kind path rest))
 
 -- ---- the end
 
 count-follows : (count : ℕ) (last bytes : List ℕ) → Follows (0x45 ∷ bytes) (item_fields count last) (end_at count (0x45 ∷ bytes)) (λ _. no_field)
-unfolding end_at mark_at item_fields
+unfolding end_at given_byte_at item_fields
 count-follows count last bytes =
     behind-follows (0x45 ∷ bytes) (0x45 ∷ []) bytes (item_fields count last) (number 8 (λ n. n ≡ count) (λ _. no_field)) (checked (λ n. eqb n count) bytes (number_at 8 bytes)) (λ _. no_field) refl
     (λ before bad next. inr (0x45 ∷ [], (before, refl, refl, refl, next)))
@@ -336,5 +336,5 @@ count-follows count last bytes =
 
 pub end-follows : (count : ℕ) (last bytes : List ℕ) → begins_end bytes ≡ true → Follows bytes (item_fields count last) (end_at count bytes) (λ _. no_field)
 end-follows count last [] is = absurd cc
-end-follows count last (mark ∷ bytes) is =
-    subst (λ (m : ℕ). Follows (m ∷ bytes) (item_fields count last) (end_at count (m ∷ bytes)) (λ _. no_field)) (sym (eqb-true mark 0x45 is)) (count-follows count last bytes)
+end-follows count last (kind_byte ∷ bytes) is =
+    subst (λ (m : ℕ). Follows (m ∷ bytes) (item_fields count last) (end_at count (m ∷ bytes)) (λ _. no_field)) (sym (eqb-true kind_byte 0x45 is)) (count-follows count last bytes)

@@ -3,10 +3,14 @@ pub mod Faults
 pub mod Fields
 pub mod Filling
 pub mod Growing
+pub mod Heads
+pub mod Items
 pub mod Judged
 pub mod Lengths
 pub mod Names
 pub mod OneSpelling
+pub mod Onward
+pub mod SoFar
 pub mod Sound
 pub mod Standing
 pub mod Steps

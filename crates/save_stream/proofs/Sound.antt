@@ -22,7 +22,7 @@ use Rattle.save_stream.specs.declared.entry.EntryKind.TheVariants as kinds
 use Rattle.save_stream.specs.declared.head_reading.HeadNumbers.{HeadNumbers}
 use Rattle.save_stream.specs.declared.stop.Stop.TheVariants as stops
 use Rattle.save_stream.specs.Spelling.{max_entries, max_size, IsNameTo, IsHead, IsBelow, number_text, short_number_text, short_text, long_text, head_text, entry_front, end_text}
-use Rattle.save_stream.specs.Reading.{Part, ◌>>=◌, checked, byte_at, number_at, bytes_at, is_printable, is_name, text_at, mark_at, ssid_at, base_at, is_level, level_at, moment_at, numbers_at, names_at, head_at, kind_of, kind_among, kind_at, is_path, is_below, path_at, mtime_at, size_at, front_at, end_at, Front, HeadNames}
+use Rattle.save_stream.specs.Reading.{Part, ◌>>=◌, checked, byte_at, number_at, bytes_at, is_printable, is_name, text_at, given_byte_at, ssid_at, base_at, is_level, level_at, moment_at, numbers_at, names_at, head_at, kind_of, kind_among, kind_at, is_path, is_below, path_at, mtime_at, size_at, front_at, end_at, Front, HeadNames}
 use Rattle.save_stream.proofs.Again.{FitsKind}
 
 -- ---- bytes
@@ -33,7 +33,7 @@ IsBytes bytes = (i : ℕ) → get_or bytes i 0 < 256
 IsBytes-drop : (n : ℕ) (bytes : List ℕ) → IsBytes bytes → IsBytes (drop n bytes)
 IsBytes-drop n bytes is i = rw get_or-drop (is (n + i))
 
-IsBytes-take : (n : ℕ) (bytes : List ℕ) → IsBytes bytes → IsBytes (take n bytes)
+pub IsBytes-take : (n : ℕ) (bytes : List ℕ) → IsBytes bytes → IsBytes (take n bytes)
 IsBytes-take n bytes is i =
     elim (cases_lt i n) [
       | inl below ↦ rw (get_or-take n bytes i 0 below) (is i)
@@ -162,12 +162,12 @@ text-takes least most bytes is =
       is_name-is text second.1,
     )))
 
-mark-takes : (mark : ℕ) (bytes : List ℕ) → IsBytes bytes → When (mark_at mark bytes) (λ byte rest. FollowsReading bytes (mark ∷ []) rest)
-unfolding mark_at
-mark-takes mark bytes is =
-    when-weaker (checked (λ byte. eqb byte mark) bytes (byte_at bytes)) (λ byte rest. FollowsReading bytes (byte ∷ []) rest × (eqb byte mark ≡ true)) (λ byte rest. FollowsReading bytes (mark ∷ []) rest)
-    (checked-when (λ byte. eqb byte mark) bytes (byte_at bytes) (λ byte rest. FollowsReading bytes (byte ∷ []) rest) (byte-takes bytes is))
-    (λ byte rest took. subst (λ (m : ℕ). FollowsReading bytes (m ∷ []) rest) (eqb-true byte mark took.1) took.0)
+given_byte-takes : (kind_byte : ℕ) (bytes : List ℕ) → IsBytes bytes → When (given_byte_at kind_byte bytes) (λ byte rest. FollowsReading bytes (kind_byte ∷ []) rest)
+unfolding given_byte_at
+given_byte-takes kind_byte bytes is =
+    when-weaker (checked (λ byte. eqb byte kind_byte) bytes (byte_at bytes)) (λ byte rest. FollowsReading bytes (byte ∷ []) rest × (eqb byte kind_byte ≡ true)) (λ byte rest. FollowsReading bytes (kind_byte ∷ []) rest)
+    (checked-when (λ byte. eqb byte kind_byte) bytes (byte_at bytes) (λ byte rest. FollowsReading bytes (byte ∷ []) rest) (byte-takes bytes is))
+    (λ byte rest took. subst (λ (m : ℕ). FollowsReading bytes (m ∷ []) rest) (eqb-true byte kind_byte took.1) took.0)
 
 -- ---- the head
 
@@ -230,8 +230,8 @@ numbers_text numbers = (0x48 ∷ []) ++ number_text numbers.ssid.0 ++ number_tex
 numbers-takes : (bytes : List ℕ) → IsBytes bytes → When (numbers_at bytes) (λ numbers rest. FollowsReading bytes (numbers_text numbers) rest × AreNumbers numbers)
 unfolding numbers_at
 numbers-takes bytes is =
-    then-when (mark_at 0x48 bytes) _ _ _ (mark-takes 0x48 bytes is)
-    (λ mark after-mark a. then-when (ssid_at after-mark) _ _ _ (ssid-takes after-mark a.rest_fits)
+    then-when (given_byte_at 0x48 bytes) _ _ _ (given_byte-takes 0x48 bytes is)
+    (λ kind_byte after-kind_byte a. then-when (ssid_at after-kind_byte) _ _ _ (ssid-takes after-kind_byte a.rest_fits)
     (λ ssid after-ssid b. then-when (base_at ssid after-ssid) _ _ _ (base-takes ssid after-ssid b.0.rest_fits)
     (λ base after-base c. then-when (level_at base after-base) _ _ _ (level-takes base after-base c.0.rest_fits)
     (λ level after-level d. then-when (moment_at 0 after-level) _ _ _ (moment-takes 0 after-level d.0.rest_fits)
@@ -402,6 +402,6 @@ front-takes count last bytes is =
 pub end-takes : (count : ℕ) (bytes : List ℕ) → IsBytes bytes → When (end_at count bytes) (λ number rest. FollowsReading bytes (end_text count) rest)
 unfolding end_at
 end-takes count bytes is =
-    then-when (mark_at 0x45 bytes) _ _ _ (mark-takes 0x45 bytes is)
-    (λ mark start a. when-weaker (checked (λ n. eqb n count) start (number_at 8 start)) _ _ (checked_number-takes (λ n. eqb n count) start a.rest_fits)
+    then-when (given_byte_at 0x45 bytes) _ _ _ (given_byte-takes 0x45 bytes is)
+    (λ kind_byte start a. when-weaker (checked (λ n. eqb n count) start (number_at 8 start)) _ _ (checked_number-takes (λ n. eqb n count) start a.rest_fits)
     (λ number rest b. subst (λ (n : ℕ). FollowsReading bytes ((0x45 ∷ []) ++ number_text n) rest) (eqb-true number count b.1) (Takes-then _ _ _ _ _ a b.0.0)))

@@ -10,8 +10,8 @@ use Rattle.save_stream.specs.declared.entry.IndexEntry.{IndexEntry}
 use Rattle.save_stream.specs.declared.head.SetHead.{SetHead}
 use Rattle.save_stream.specs.declared.stop.Stop.TheVariants as stops
 use Rattle.save_stream.specs.Spelling.{max_entries, IsHead, Saved, IsSaved, HasFields, Ascend, IsBelow, head_text, entry_front, entry_text, end_text, index_entry, index_from}
-use Rattle.save_stream.specs.Reading.{Part, Front, begins_end, entry_from, last_path, head_at, front_at, end_at, kind_at, mark_at}
-use Rattle.save_stream.specs.Standing.{Spells}
+use Rattle.save_stream.specs.Reading.{Part, Front, begins_end, entry_from, last_path, head_at, front_at, end_at, kind_at, given_byte_at}
+use Rattle.save_stream.specs.Standing.{Spells, Waits, WaitsIf}
 use Rattle.save_stream.proofs.Again.{FitsKind, head-again, front-again, end-again}
 use Rattle.save_stream.proofs.Sound.{IsBytes, FollowsReading, When, FrontIs, head-takes, front-takes, end-takes}
 use Rattle.save_stream.proofs.Whole.{length-index_from}
@@ -42,21 +42,13 @@ no-rest {X = X} parse text pending (next ∷ rest) byte x again is waits =
 
 -- ---- the bytes of an entry or an end that is to come
 
-abbrev pub WaitsIf : Bool → List IndexEntry → List ℕ → Type 0
-WaitsIf true entries pending = end_at (length entries) pending ≡ Err stops.More
-WaitsIf false entries pending = front_at (length entries) (last_path entries) pending ≡ Err stops.More
-
--- pending bytes aren't complete
-abbrev pub Waits : List IndexEntry → List ℕ → Type 0
-Waits entries pending = WaitsIf (begins_end pending) entries pending
-
 pub none-waits : (entries : List IndexEntry) → Waits entries []
 unfolding front_at kind_at
 none-waits entries = refl
 
 pub end-waits : (entries : List IndexEntry) (pending : List ℕ) (byte : ℕ) → Waits entries pending → begins_end (pending ++ byte ∷ []) ≡ true
     → end_at (length entries) pending ≡ Err stops.More
-unfolding end_at mark_at
+unfolding end_at given_byte_at
 end-waits entries [] byte waits ends = refl
 end-waits entries (first ∷ pending) byte waits ends = subst (λ (test : Bool). WaitsIf test entries (first ∷ pending)) ends waits
 

@@ -8,30 +8,20 @@ use Rattle.save_stream.specs.declared.fault.StreamFault.{StreamFault}
 use Rattle.save_stream.specs.declared.head.SetHead.{SetHead}
 use Rattle.save_stream.specs.declared.stop.Stop.TheVariants as stops
 use Rattle.save_stream.specs.Spelling.{IsHead, max_entries, head_text, Saved, entry_front, end_text}
-use Rattle.save_stream.specs.Reading.{Part, Reading, Front, behind_head, start, read_alone, settled, settle, settle_by, begins_end, with_head, with_entry, with_end, entry_from, last_path, with_byte, passed, after_byte, then_reads, reads, head_at, front_at, end_at, mark_at, numbers_at}
-use Rattle.save_stream.specs.Standing.{Spells, Behind, Stands}
+use Rattle.save_stream.specs.Reading.{Part, Reading, Front, behind_head, start, read_alone, settled, settle, settle_by, begins_end, with_head, with_entry, with_end, entry_from, last_path, with_byte, passed, after_byte, then_reads, reads, head_at, front_at, end_at, given_byte_at, numbers_at}
+use Rattle.save_stream.specs.Standing.{Spells, Behind, Stands, Waits, WaitsIf, Holds}
 use Rattle.save_stream.proofs.Sound.{IsBytes, FrontIs}
-use Rattle.save_stream.proofs.Standing.{Waits, WaitsIf, none-waits, end-waits, front-waits, end-whole, head-whole, front-whole, saved_of, spells-more, spells-end, spells-entry}
+use Rattle.save_stream.proofs.Standing.{none-waits, end-waits, front-waits, end-whole, head-whole, front-whole, saved_of, spells-more, spells-end, spells-entry}
 use Rattle.save_stream.proofs.Taking.{after-passed}
 use Rattle.save_stream.proofs.Whole.{next-byte, length-index_from}
 
-abbrev WaitsAt : Option SetHead → Reading → Type 0
-WaitsAt None reading = head_at reading.pending ≡ Err stops.More
-WaitsAt (Some head) reading = reading.ended ≡ false → Waits reading.entries reading.pending
-
--- a reader stands where its text says, and its pending bytes aren't complete
-pub record Holds (text : List ℕ) (reading : Reading) : Type 0 where
-  pub stands : Stands text reading
-  pub bytes : IsBytes reading.pending
-  pub waits : WaitsAt reading.head reading
-
-IsBytes-more : (bytes : List ℕ) (byte : ℕ) → IsBytes bytes → byte < 256 → IsBytes (bytes ++ byte ∷ [])
+pub IsBytes-more : (bytes : List ℕ) (byte : ℕ) → IsBytes bytes → byte < 256 → IsBytes (bytes ++ byte ∷ [])
 IsBytes-more [] byte is small zero = small
 IsBytes-more [] byte is small (suc i) = omega arith
 IsBytes-more (first ∷ bytes) byte is small zero = is 0
 IsBytes-more (first ∷ bytes) byte is small (suc i) = IsBytes-more bytes byte (λ k. is (suc k)) small i
 
-IsBytes-none : IsBytes []
+pub IsBytes-none : IsBytes []
 IsBytes-none i = omega arith
 
 abbrev pub done : Reading → Result Reading StreamFault
@@ -276,14 +266,14 @@ reads-holds (byte ∷ bytes) text reading next holds fit is =
     let one = byte-step text byte reading.read reading.left reading.ended reading.head reading.entries reading.pending step.0 holds (fit 0) step.1 in
     subst (λ (t : List ℕ). Holds t next) (append_assoc text (byte ∷ []) bytes) (reads-holds bytes (text ++ byte ∷ []) step.0 next one (λ i. fit (suc i)) step.2)
 
-start-holds : Holds [] start
-unfolding head_at numbers_at mark_at
+pub start-holds : Holds [] start
+unfolding head_at numbers_at given_byte_at
 start-holds = record { stands = record { read = refl; at = record { bytes = refl; going = refl; none = (refl, refl) } }; bytes = IsBytes-none; waits = refl }
 
 pub reads-stand : (text : List ℕ) (reading : Reading) → IsBytes text → reads start text ≡ Ok reading → Stands text reading
 reads-stand text reading fit is = (reads-holds text [] start reading start-holds fit is).stands
 
-head-holds : (head : SetHead) → IsHead head → Holds (head_text head) (behind_head (length (head_text head)) head)
+pub head-holds : (head : SetHead) → IsHead head → Holds (head_text head) (behind_head (length (head_text head)) head)
 head-holds head is = record {
   stands = record {
     read = refl;

@@ -16,7 +16,7 @@ use Rattle.save_stream.specs.declared.head.SetHead.{SetHead}
 use Rattle.save_stream.specs.declared.stop.Stop.{Stop}
 use Rattle.save_stream.specs.declared.stop.Stop.TheVariants as stops
 use Rattle.save_stream.specs.Spelling.{max_entries, max_size, IsBelow}
-use Rattle.save_stream.specs.Reading.{Part, ◌>>=◌, Front, Reading, start, reads, then_reads, settle, settle_from, settle_by, settled, read_alone, with_head, with_entry, with_end, last_path, begins_end, checked, byte_at, number_at, bytes_at, is_name, text_at, mark_at, ssid_at, base_at, is_level, level_at, moment_at, numbers_at, names_at, head_at, kind_of, kind_among, kind_at, is_path, is_below, path_at, mtime_at, size_at, front_at, end_at}
+use Rattle.save_stream.specs.Reading.{Part, ◌>>=◌, Front, Reading, start, reads, then_reads, settle, settle_from, settle_by, settled, read_alone, with_head, with_entry, with_end, last_path, begins_end, checked, byte_at, number_at, bytes_at, is_name, text_at, given_byte_at, ssid_at, base_at, is_level, level_at, moment_at, numbers_at, names_at, head_at, kind_of, kind_among, kind_at, is_path, is_below, path_at, mtime_at, size_at, front_at, end_at}
 use Rattle.save_stream.specs.BadField.{FieldRules, no_field, field, byte, number, text, name, names, head_fields, times, entry_fields, fields_behind, Begins, item_fields, next_fields, HasBadField, HasEntryTooMany}
 use Rattle.save_stream.proofs.Again.{sized-again, bytes-again}
 use Rattle.save_stream.proofs.Filling.{full-front}
@@ -122,12 +122,12 @@ names-lead before bad rest is =
     (λ four d nd. absurd nd))))
 
 numbers-lead : (before bad rest : List ℕ) → head_fields before bad → Leads (numbers_at (before ++ (bad ++ rest))) (bad ++ rest) bad (λ _. names)
-unfolding numbers_at head_fields mark_at ssid_at base_at level_at moment_at
+unfolding numbers_at head_fields given_byte_at ssid_at base_at level_at moment_at
 numbers-lead before bad rest is =
     let tail = bad ++ rest in
-    then-leads (mark_at 0x48 (before ++ tail)) tail bad (λ _. ssid_fields) _ (λ _. names)
-    (field-leads 1 (λ bytes. slice_index bytes 0) (λ mark. eqb mark 0x48) (λ mark. mark ≡ 0x48) (λ _. ssid_fields) byte_at (same-decides 0x48) reads-byte before bad rest is)
-    (λ mark a na. then-leads (ssid_at (a ++ tail)) tail bad base_fields _ (λ _. names)
+    then-leads (given_byte_at 0x48 (before ++ tail)) tail bad (λ _. ssid_fields) _ (λ _. names)
+    (field-leads 1 (λ bytes. slice_index bytes 0) (λ kind_byte. eqb kind_byte 0x48) (λ kind_byte. kind_byte ≡ 0x48) (λ _. ssid_fields) byte_at (same-decides 0x48) reads-byte before bad rest is)
+    (λ kind_byte a na. then-leads (ssid_at (a ++ tail)) tail bad base_fields _ (λ _. names)
     (field-leads 8 (big_number 8) (λ ssid. nat_lt 0 ssid) (λ ssid. 1 ≤ ssid) base_fields (number_at 8) some-decides (reads-number 8) a bad rest na)
     (λ ssid b nb. then-leads (base_at ssid (b ++ tail)) tail bad level_fields _ (λ _. names)
     (field-leads 8 (big_number 8) (λ base. nat_lt base ssid) (λ base. base < ssid) level_fields (number_at 8) (base-decides ssid) (reads-number 8) b bad rest nb)
@@ -141,7 +141,7 @@ numbers-lead before bad rest is =
     (field-leads 8 (big_number 8) (λ n. nat_le browse n && nat_le n max_moment) (λ n. (browse ≤ n) × (n ≤ max_moment)) (λ _. names) (number_at 8) (between-decides browse max_moment) (reads-number 8) f bad rest nf)
     (λ retain g ng. (g, refl, ng))))))))
 
-head-leads : (before bad rest : List ℕ) → head_fields before bad → Leads (head_at (before ++ (bad ++ rest))) (bad ++ rest) bad (λ _. no_field)
+pub head-leads : (before bad rest : List ℕ) → head_fields before bad → Leads (head_at (before ++ (bad ++ rest))) (bad ++ rest) bad (λ _. no_field)
 unfolding head_at
 head-leads before bad rest is =
     let tail = bad ++ rest in
@@ -180,30 +180,30 @@ room-leads : (room : Bool) (count : ℕ) (last : List ℕ) (kind : EntryKind) (b
 room-leads true count last kind before bad rest is room next = (before, refl, next)
 room-leads false count last kind before bad rest is room next = absurd (true-is-false (nat_lt count max_entries) (lt-ltb count max_entries room) is)
 
-entry-leads : (count : ℕ) (last : List ℕ) (mark : ℕ) (kind : EntryKind) (before bad rest : List ℕ) → kind_of mark ≡ Some kind → count < max_entries → entry_fields last kind before bad
-    → Leads (front_at count last (mark ∷ (before ++ (bad ++ rest)))) (bad ++ rest) bad (λ _. no_field)
+entry-leads : (count : ℕ) (last : List ℕ) (kind_byte : ℕ) (kind : EntryKind) (before bad rest : List ℕ) → kind_of kind_byte ≡ Some kind → count < max_entries → entry_fields last kind before bad
+    → Leads (front_at count last (kind_byte ∷ (before ++ (bad ++ rest)))) (bad ++ rest) bad (λ _. no_field)
 unfolding front_at kind_at
-entry-leads count last mark kind before bad rest is room next =
+entry-leads count last kind_byte kind before bad rest is room next =
     let tail = bad ++ rest in
-    let behind = length (mark ∷ (before ++ tail)) in
-    then-leads (kind_among count behind (kind_of mark) (before ++ tail)) tail bad (entry_fields last) _ (λ _. no_field)
+    let behind = length (kind_byte ∷ (before ++ tail)) in
+    then-leads (kind_among count behind (kind_of kind_byte) (before ++ tail)) tail bad (entry_fields last) _ (λ _. no_field)
     (subst (λ (k : Option EntryKind). Leads (kind_among count behind k (before ++ tail)) tail bad (entry_fields last)) (sym is) (room-leads (nat_lt count max_entries) count last kind before bad rest refl room next))
     (λ kind a na. then-leads (path_at last (a ++ tail)) tail bad (λ _. times kind) _ (λ _. no_field) (path-leads last kind a bad rest na)
     (λ path b nb. times-lead kind path b bad rest nb))
 
-unknown-leads : (count : ℕ) (last : List ℕ) (mark : ℕ) (rest bad : List ℕ) → kind_of mark ≡ None → Leads (front_at count last (mark ∷ rest)) (mark ∷ rest) bad (λ _. no_field)
+unknown-leads : (count : ℕ) (last : List ℕ) (kind_byte : ℕ) (rest bad : List ℕ) → kind_of kind_byte ≡ None → Leads (front_at count last (kind_byte ∷ rest)) (kind_byte ∷ rest) bad (λ _. no_field)
 unfolding front_at kind_at
-unknown-leads count last mark rest bad is =
-    then-leads (kind_among count (length (mark ∷ rest)) (kind_of mark) rest) (mark ∷ rest) bad (λ _. no_field) _ (λ _. no_field)
-    (subst (λ (k : Option EntryKind). Leads (kind_among count (length (mark ∷ rest)) k rest) (mark ∷ rest) bad (λ _. no_field)) (sym is) refl)
+unknown-leads count last kind_byte rest bad is =
+    then-leads (kind_among count (length (kind_byte ∷ rest)) (kind_of kind_byte) rest) (kind_byte ∷ rest) bad (λ _. no_field) _ (λ _. no_field)
+    (subst (λ (k : Option EntryKind). Leads (kind_among count (length (kind_byte ∷ rest)) k rest) (kind_byte ∷ rest) bad (λ _. no_field)) (sym is) refl)
     (λ kind a na. absurd na)
 
 count-leads : (count : ℕ) (before bad rest : List ℕ) → number 8 (λ n. n ≡ count) (λ _. no_field) before bad
     → Leads (end_at count (0x45 ∷ (before ++ (bad ++ rest)))) (bad ++ rest) bad (λ _. no_field)
-unfolding end_at mark_at
+unfolding end_at given_byte_at
 count-leads count before bad rest is = field-leads 8 (big_number 8) (λ n. eqb n count) (λ n. n ≡ count) (λ _. no_field) (number_at 8) (same-decides count) (reads-number 8) before bad rest is
 
-leads-nowhere : {X : Type 0} (part : Part X) (tail bad : List ℕ) → Leads part tail bad (λ _. no_field) → part ≡ Err (stops.Wrong (length tail))
+pub leads-nowhere : {X : Type 0} (part : Part X) (tail bad : List ℕ) → Leads part tail bad (λ _. no_field) → part ≡ Err (stops.Wrong (length tail))
 leads-nowhere (Ok x) tail bad is = absurd is.2
 leads-nowhere (Err stops.More) tail bad is = absurd is
 leads-nowhere (Err (stops.Wrong behind)) tail bad is = ap (λ (n : ℕ). Err (stops.Wrong n)) is
@@ -224,41 +224,41 @@ some_kind kind = Some kind
 none-no-kind : (kind : EntryKind) → no_kind ≡ some_kind kind → ⊥
 none-no-kind kind is = cc
 
-is-no-end : (mark : ℕ) → (Begins (kind_of mark) mark → ⊥) → eqb mark 0x45 ≡ false
-is-no-end mark other = fails (eqb mark 0x45) (λ is. other (subst (λ (m : ℕ). Begins (kind_of m) m) (sym (eqb-true mark 0x45 is)) refl))
+is-no-end : (kind_byte : ℕ) → (Begins (kind_of kind_byte) kind_byte → ⊥) → eqb kind_byte 0x45 ≡ false
+is-no-end kind_byte other = fails (eqb kind_byte 0x45) (λ is. other (subst (λ (m : ℕ). Begins (kind_of m) m) (sym (eqb-true kind_byte 0x45 is)) refl))
 
-some-is-no-end : (mark : ℕ) (kind : EntryKind) → kind_of mark ≡ Some kind → eqb mark 0x45 ≡ false
-some-is-no-end mark kind is = fails (eqb mark 0x45) (λ same. none-no-kind kind (sym (ap kind_of (eqb-true mark 0x45 same)) ∙ is))
+some-is-no-end : (kind_byte : ℕ) (kind : EntryKind) → kind_of kind_byte ≡ Some kind → eqb kind_byte 0x45 ≡ false
+some-is-no-end kind_byte kind is = fails (eqb kind_byte 0x45) (λ same. none-no-kind kind (sym (ap kind_of (eqb-true kind_byte 0x45 same)) ∙ is))
 
-mark-stops : (count : ℕ) (last : List ℕ) (mark : ℕ) (rest : List ℕ) (kind : Option EntryKind) → kind_of mark ≡ kind → (Begins (kind_of mark) mark → ⊥)
-    → ItemStops count last (mark ∷ rest) (length (mark ∷ rest))
-mark-stops count last mark rest None is other = inr (is-no-end mark other, leads-nowhere (front_at count last (mark ∷ rest)) (mark ∷ rest) [] (unknown-leads count last mark rest [] is))
-mark-stops count last mark rest (Some kind) is other = absurd (other (subst (λ (k : Option EntryKind). Begins k mark) (sym is) tt))
+kind_byte-stops : (count : ℕ) (last : List ℕ) (kind_byte : ℕ) (rest : List ℕ) (kind : Option EntryKind) → kind_of kind_byte ≡ kind → (Begins (kind_of kind_byte) kind_byte → ⊥)
+    → ItemStops count last (kind_byte ∷ rest) (length (kind_byte ∷ rest))
+kind_byte-stops count last kind_byte rest None is other = inr (is-no-end kind_byte other, leads-nowhere (front_at count last (kind_byte ∷ rest)) (kind_byte ∷ rest) [] (unknown-leads count last kind_byte rest [] is))
+kind_byte-stops count last kind_byte rest (Some kind) is other = absurd (other (subst (λ (k : Option EntryKind). Begins k kind_byte) (sym is) tt))
 
-bad-mark-stops : (count : ℕ) (last bad rest : List ℕ) → length bad ≡ 1 → (Begins (kind_of (slice_index bad 0)) (slice_index bad 0) → ⊥) → ItemStops count last (bad ++ rest) (length (bad ++ rest))
-bad-mark-stops count last [] rest one other = absurd (omega (arith, one))
-bad-mark-stops count last (mark ∷ []) rest one other = mark-stops count last mark rest (kind_of mark) refl other
-bad-mark-stops count last (mark ∷ next ∷ bad) rest one other = absurd (omega (arith, one))
+bad-kind_byte-stops : (count : ℕ) (last bad rest : List ℕ) → length bad ≡ 1 → (Begins (kind_of (slice_index bad 0)) (slice_index bad 0) → ⊥) → ItemStops count last (bad ++ rest) (length (bad ++ rest))
+bad-kind_byte-stops count last [] rest one other = absurd (omega (arith, one))
+bad-kind_byte-stops count last (kind_byte ∷ []) rest one other = kind_byte-stops count last kind_byte rest (kind_of kind_byte) refl other
+bad-kind_byte-stops count last (kind_byte ∷ next ∷ bad) rest one other = absurd (omega (arith, one))
 
-behind-mark-stops : (count : ℕ) (last : List ℕ) (mark : ℕ) (before bad rest : List ℕ) (kind : Option EntryKind) → kind_of mark ≡ kind → Begins kind mark → fields_behind count last kind before bad
-    → ItemStops count last (mark ∷ (before ++ (bad ++ rest))) (length (bad ++ rest))
-behind-mark-stops count last mark before bad rest None is begins next =
+behind-kind_byte-stops : (count : ℕ) (last : List ℕ) (kind_byte : ℕ) (before bad rest : List ℕ) (kind : Option EntryKind) → kind_of kind_byte ≡ kind → Begins kind kind_byte → fields_behind count last kind before bad
+    → ItemStops count last (kind_byte ∷ (before ++ (bad ++ rest))) (length (bad ++ rest))
+behind-kind_byte-stops count last kind_byte before bad rest None is begins next =
     subst (λ (m : ℕ). ItemStops count last (m ∷ (before ++ (bad ++ rest))) (length (bad ++ rest))) (sym begins)
     (inl (refl, leads-nowhere (end_at count (0x45 ∷ (before ++ (bad ++ rest)))) (bad ++ rest) bad (count-leads count before bad rest next)))
-behind-mark-stops count last mark before bad rest (Some kind) is begins next =
-    inr (some-is-no-end mark kind is, leads-nowhere (front_at count last (mark ∷ (before ++ (bad ++ rest)))) (bad ++ rest) bad (entry-leads count last mark kind before bad rest is next.0 next.1))
+behind-kind_byte-stops count last kind_byte before bad rest (Some kind) is begins next =
+    inr (some-is-no-end kind_byte kind is, leads-nowhere (front_at count last (kind_byte ∷ (before ++ (bad ++ rest)))) (bad ++ rest) bad (entry-leads count last kind_byte kind before bad rest is next.0 next.1))
 
 marked-stops : (count : ℕ) (last front before bad rest : List ℕ) → length front ≡ 1 → Begins (kind_of (slice_index front 0)) (slice_index front 0)
     → fields_behind count last (kind_of (slice_index front 0)) before bad → ItemStops count last (front ++ (before ++ (bad ++ rest))) (length (bad ++ rest))
 marked-stops count last [] before bad rest one begins next = absurd (omega (arith, one))
-marked-stops count last (mark ∷ []) before bad rest one begins next = behind-mark-stops count last mark before bad rest (kind_of mark) refl begins next
-marked-stops count last (mark ∷ other ∷ front) before bad rest one begins next = absurd (omega (arith, one))
+marked-stops count last (kind_byte ∷ []) before bad rest one begins next = behind-kind_byte-stops count last kind_byte before bad rest (kind_of kind_byte) refl begins next
+marked-stops count last (kind_byte ∷ other ∷ front) before bad rest one begins next = absurd (omega (arith, one))
 
 item-stops : (count : ℕ) (last before bad rest : List ℕ) → item_fields count last before bad → ItemStops count last (before ++ (bad ++ rest)) (length (bad ++ rest))
 unfolding item_fields
 item-stops count last before bad rest is = elim is [
   | inl here ↦
-      subst (λ (t : List ℕ). ItemStops count last (t ++ (bad ++ rest)) (length (bad ++ rest))) (sym here.0) (bad-mark-stops count last bad rest here.1 here.2)
+      subst (λ (t : List ℕ). ItemStops count last (t ++ (bad ++ rest)) (length (bad ++ rest))) (sym here.0) (bad-kind_byte-stops count last bad rest here.1 here.2)
   | inr on ↦
       subst (λ (t : List ℕ). ItemStops count last t (length (bad ++ rest)))
       (sym (ap (λ (t : List ℕ). t ++ (bad ++ rest)) on.1.1 ∙ append_assoc on.0 on.1.0 (bad ++ rest)))
@@ -328,7 +328,7 @@ wrong-whole base first parse made settles more behind offset is places =
     ∙ wrong-on base first parse made settles more [] behind offset is (omega (arith, places))
 
 head-waits : head_at [] ≡ Err stops.More
-unfolding head_at numbers_at mark_at
+unfolding head_at numbers_at given_byte_at
 head-waits = refl
 
 front-waits : (count : ℕ) (last : List ℕ) → front_at count last [] ≡ Err stops.More
@@ -410,29 +410,28 @@ over-settles : (test : Bool) (now : Reading) → test ≡ false → front_at (le
 over-settles true now other is = absurd cc
 over-settles false now other is = ap (λ (p : Part Front). settled (with_entry now) now (read_alone p)) is
 
-some-mark : (mark : ℕ) (kind : Option EntryKind) → kind_of mark ≡ kind → IsSome kind → eqb mark 0x45 ≡ false
-some-mark mark None is some = absurd cc
-some-mark mark (Some kind) is some = some-is-no-end mark kind is
+some-kind_byte : (kind_byte : ℕ) (kind : Option EntryKind) → kind_of kind_byte ≡ kind → IsSome kind → eqb kind_byte 0x45 ≡ false
+some-kind_byte kind_byte None is some = absurd cc
+some-kind_byte kind_byte (Some kind) is some = some-is-no-end kind_byte kind is
 
-over-stops : (read left : ℕ) (head : Option SetHead) (entries : List IndexEntry) (pending : List ℕ) (mark : ℕ) (rest : List ℕ) → pending ≡ [] → left ≡ 0 → IsSome head
-    → max_entries ≤ length entries → IsSome (kind_of mark)
-    → reads (record { read = read; left = left; ended = false; head = head; entries = entries; pending = pending }) (mark ∷ rest) ≡ Err (faults.TooMany max_entries)
+over-stops : (read left : ℕ) (head : Option SetHead) (entries : List IndexEntry) (pending : List ℕ) (kind_byte : ℕ) (rest : List ℕ) → pending ≡ [] → left ≡ 0 → IsSome head
+    → max_entries ≤ length entries → IsSome (kind_of kind_byte)
+    → reads (record { read = read; left = left; ended = false; head = head; entries = entries; pending = pending }) (kind_byte ∷ rest) ≡ Err (faults.TooMany max_entries)
 unfolding settle
-over-stops read left None entries pending mark rest none idle some full begins = absurd cc
-over-stops read left (Some head) entries pending mark rest none idle some full begins =
+over-stops read left None entries pending kind_byte rest none idle some full begins = absurd cc
+over-stops read left (Some head) entries pending kind_byte rest none idle some full begins =
     let reading : Reading = record { read = read; left = left; ended = false; head = Some head; entries = entries; pending = pending } in
     ap (λ (r : Result Reading StreamFault). then_reads r (λ next. reads next rest))
-    (next-byte reading mark refl idle
-    ∙ ap (λ (p : List ℕ). settle (record reading { read = read + 1; pending = p ++ mark ∷ [] })) none
-    ∙ over-settles (eqb mark 0x45) (record reading { read = read + 1; pending = mark ∷ [] }) (some-mark mark (kind_of mark) refl begins)
-    (full-front (length entries) (last_path entries) mark [] begins full))
+    (next-byte reading kind_byte refl idle
+    ∙ ap (λ (p : List ℕ). settle (record reading { read = read + 1; pending = p ++ kind_byte ∷ [] })) none
+    ∙ over-settles (eqb kind_byte 0x45) (record reading { read = read + 1; pending = kind_byte ∷ [] }) (some-kind_byte kind_byte (kind_of kind_byte) refl begins)
+    (full-front (length entries) (last_path entries) kind_byte [] begins full))
 
-pub many-is-fault : (stream : List ℕ) (limit : ℕ) → (limit ≡ max_entries) × HasEntryTooMany stream → reads start stream ≡ Err (faults.TooMany limit)
-many-is-fault stream limit is =
-    let has = is.1 in
+pub many-is-fault : (stream : List ℕ) (limit offset : ℕ) → limit ≡ max_entries → HasEntryTooMany stream offset → reads start stream ≡ Err (faults.TooMany limit)
+many-is-fault stream limit offset is has =
     let reading = has.reading in
-    let tail = has.mark ∷ has.rest in
+    let tail = has.kind_byte ∷ has.rest in
     ap (reads start) has.parts ∙ reads-append has.whole start tail ∙ ap (λ (r : Result Reading StreamFault). then_reads r (λ next. reads next tail)) has.read
     ∙ ap (λ (ended : Bool). reads (record reading { ended = ended }) tail) has.going.0
-    ∙ over-stops reading.read reading.left reading.head reading.entries reading.pending has.mark has.rest has.idle.0 has.idle.1 has.going.1 has.full has.begins
-    ∙ ap (λ (n : ℕ). Err (faults.TooMany n)) (sym is.0)
+    ∙ over-stops reading.read reading.left reading.head reading.entries reading.pending has.kind_byte has.rest has.idle.0 has.idle.1 has.going.1 has.full has.begins
+    ∙ ap (λ (n : ℕ). Err (faults.TooMany n)) (sym is)

@@ -6,7 +6,11 @@ use Rattle.save_stream.specs.declared.entry.IndexEntry.{IndexEntry}
 use Rattle.save_stream.specs.declared.head.SetHead.{SetHead}
 use Rattle.save_stream.specs.declared.fault.StreamFault.{StreamFault}
 use Rattle.save_stream.specs.declared.fault.StreamFault.TheVariants as faults
-use Rattle.save_stream.specs.Reading.{Reading, reads, then_reads, after_byte, passed, last_path, Keeps, KeepsHead, Advances}
+use Rattle.save_stream.specs.declared.progress.Progress.{Progress}
+use Rattle.save_stream.specs.declared.state.State.{State}
+use Rattle.save_stream.specs.Items.{IsWaiting}
+use Rattle.save_stream.specs.Reading.{Reading, reads, then_reads, after_byte, passed, last_path, KeepsHead, Advances}
+use Rattle.save_stream.specs.View.{reading_of, KeepsProgress, Keeps}
 
 -- a byte behind the end
 pub reads-ended : (reading : Reading) (bytes : List ℕ) → reading.ended ≡ true → 0 < length bytes → reads reading bytes ≡ Err (faults.Bad reading.read)
@@ -55,28 +59,47 @@ head-same : (head : Option SetHead) → KeepsHead head head
 head-same None = tt
 head-same (Some head) = refl
 
-pub Keeps-then : (old mid new : Reading) → Keeps old mid → Keeps mid new → Keeps old new
-Keeps-then old mid new first second = record {
+progress-then : (old mid new : Progress) → KeepsProgress old mid → KeepsProgress mid new → KeepsProgress old new
+progress-then old mid new first second = record {
   head = head-kept old.head mid.head new.head first.head second.head;
-  entries = (first.entries.0 ++ second.entries.0, second.entries.1 ∙ ap (λ (es : List IndexEntry). es ++ second.entries.0) first.entries.1 ∙ append_assoc old.entries first.entries.0 second.entries.0);
+  entries = (
+    first.entries.0 ++ second.entries.0,
+    second.entries.1 ∙ ap (λ (es : List IndexEntry). es ++ second.entries.0) first.entries.1
+        ∙ append_assoc old.entries.items first.entries.0 second.entries.0,
+  );
 }
 
-pub Keeps-same : (reading : Reading) → Keeps reading reading
-Keeps-same reading = record { head = head-same reading.head; entries = ([], sym (append-nil reading.entries)) }
+pub Keeps-then : (old mid new : State) → Keeps old mid → Keeps mid new → Keeps old new
+Keeps-then old mid new first second = record {
+  progress = progress-then old.progress mid.progress new.progress first.progress second.progress;
+  pending = (
+    first.pending.0 ++ second.pending.0,
+    second.pending.1 ∙ ap (λ (p : List ℕ). p ++ second.pending.0) first.pending.1
+        ∙ append_assoc old.pending.items first.pending.0 second.pending.0,
+  );
+}
+
+pub progress-same : (progress : Progress) → KeepsProgress progress progress
+progress-same progress = record { head = head-same progress.head; entries = ([], sym (append-nil progress.entries.items)) }
+
+pub Keeps-same : (state : State) → Keeps state state
+Keeps-same state = record { progress = progress-same state.progress; pending = ([], sym (append-nil state.pending.items)) }
 
 -- a reader has come from the front of a piece to these bytes of it
-pub record Goes (old now : Reading) (piece rest : List ℕ) : Type 0 where
-  pub same : reads old piece ≡ reads now rest
+pub record Goes (old now : State) (piece rest : List ℕ) : Type 0 where
+  pub same : reads (reading_of old) piece ≡ reads (reading_of now) rest
   pub kept : Keeps old now
-  pub room : now.read + length rest ≤ 2 ^ 36
+  pub waiting : IsWaiting (reading_of now)
+  pub room : now.progress.read + length rest ≤ 2 ^ 36
 
-pub Goes-start : (reading : Reading) (piece : List ℕ) → reading.read + length piece ≤ 2 ^ 36 → Goes reading reading piece piece
-Goes-start reading piece room = record { same = refl; kept = Keeps-same reading; room = room }
+pub Goes-start : (state : State) (piece : List ℕ) → state.progress.read + length piece ≤ 2 ^ 36 → IsWaiting (reading_of state) → Goes state state piece piece
+Goes-start state piece room waiting = record { same = refl; kept = Keeps-same state; waiting = waiting; room = room }
 
-pub Goes-on : (old now next : Reading) (piece rest : List ℕ) (count : ℕ) → Goes old now piece rest → Advances now next rest count → Keeps now next
-    → Goes old next piece (drop count rest)
-Goes-on old now next piece rest count before step kept = record {
+pub Goes-on : (old now next : State) (piece rest : List ℕ) (count : ℕ) → Goes old now piece rest
+    → Advances (reading_of now) (reading_of next) rest count → IsWaiting (reading_of next) → Keeps now next → Goes old next piece (drop count rest)
+Goes-on old now next piece rest count before step waiting kept = record {
   same = before.same ∙ step.rest;
   kept = Keeps-then old now next before.kept kept;
+  waiting = waiting;
   room = omega (arith, before.room, step.read, step.within, length-drop count rest);
 }

@@ -105,14 +105,14 @@ last_path-append (only ∷ []) entry = refl
 last_path-append (first ∷ next ∷ entries) entry = last_path-append (next ∷ entries) entry
 
 -- the marks of entries
-mark_is : EntryKind → ℕ
-mark_is kinds.File = 0x46
-mark_is kinds.Folder = 0x44
-mark_is kinds.Gone = 0x47
+byte_of_kind : EntryKind → ℕ
+byte_of_kind kinds.File = 0x46
+byte_of_kind kinds.Folder = 0x44
+byte_of_kind kinds.Gone = 0x47
 
 entry-settles : (head : SetHead) (read : ℕ) (entries : List IndexEntry) (kind : EntryKind)
-    → Settles (between head read entries) (mark_is kind) (front_at (length entries) (last_path entries)) with_entry
-unfolding settle mark_is
+    → Settles (between head read entries) (byte_of_kind kind) (front_at (length entries) (last_path entries)) with_entry
+unfolding settle byte_of_kind
 entry-settles head read entries kinds.File = record { going = refl; left = refl; none = refl; grows = front-grows (length entries) (last_path entries); settles = λ pending. refl }
 entry-settles head read entries kinds.Folder = record { going = refl; left = refl; none = refl; grows = front-grows (length entries) (last_path entries); settles = λ pending. refl }
 entry-settles head read entries kinds.Gone = record { going = refl; left = refl; none = refl; grows = front-grows (length entries) (last_path entries); settles = λ pending. refl }
@@ -128,7 +128,7 @@ reads-front : (head : SetHead) (read : ℕ) (entries : List IndexEntry) (kind : 
     → front_at (length entries) (last_path entries) (entry_front kind path mtime size) ≡ Ok (record { kind = kind; path = path; mtime = mtime; size = size }, [])
     → reads (between head read entries) (entry_front kind path mtime size ++ rest)
     ≡ reads (with_entry (held (between head read entries) (entry_front kind path mtime size)) (record { kind = kind; path = path; mtime = mtime; size = size })) rest
-unfolding mark_is
+unfolding byte_of_kind
 reads-front head read entries kinds.File path mtime size rest whole =
     reads-item (between head read entries) 0x46 _ with_entry (entry-settles head read entries kinds.File) (drop 1 (entry_front kinds.File path mtime size)) rest _ whole
 reads-front head read entries kinds.Folder path mtime size rest whole =

@@ -50,7 +50,7 @@ names = name 1 64 (name 1 255 (name 0 64 (name 1 64 no_field)))
 
 unfoldable pub head_fields : FieldRules
 head_fields =
-    byte (λ mark. mark ≡ 0x48) (λ _.
+    byte (λ kind_byte. kind_byte ≡ 0x48) (λ _.
     number 8 (λ ssid. 1 ≤ ssid) (λ ssid.
     number 8 (λ base. base < ssid) (λ base.
     byte (λ level. (level ≤ 10) × ((base ≡ 0) ↔ (level ≡ 0))) (λ _.
@@ -79,11 +79,11 @@ fields_behind count last (Some kind) before bad = (count < max_entries) × entry
 
 -- a byte begins an entry of a kind, or the end
 abbrev pub Begins : Option EntryKind → ℕ → Type 0
-Begins None mark = mark ≡ 0x45
-Begins (Some kind) mark = Unit {0}
+Begins None kind_byte = kind_byte ≡ 0x45
+Begins (Some kind) kind_byte = Unit {0}
 
 unfoldable pub item_fields : ℕ → List ℕ → FieldRules
-item_fields count last = byte (λ mark. Begins (kind_of mark) mark) (λ mark. fields_behind count last (kind_of mark))
+item_fields count last = byte (λ kind_byte. Begins (kind_of kind_byte) kind_byte) (λ kind_byte. fields_behind count last (kind_of kind_byte))
 
 -- ---- the stream
 
@@ -111,15 +111,16 @@ pub record HasBadField (stream : List ℕ) (offset : ℕ) : Type 0 where
   pub idle : (reading.pending ≡ []) × (reading.left ≡ 0)
   pub first_bad : next_fields reading.ended reading.head reading.entries before bad
 
--- A stream begins one more entry than there may be.
-pub record HasEntryTooMany (stream : List ℕ) : Type 0 where
+-- A stream begins one more entry than there may be, whose kind byte stands at this offset.
+pub record HasEntryTooMany (stream : List ℕ) (offset : ℕ) : Type 0 where
   pub whole : List ℕ
   pub reading : Reading
-  pub mark : ℕ
+  pub kind_byte : ℕ
   pub rest : List ℕ
-  pub parts : stream ≡ whole ++ mark ∷ rest
+  pub parts : stream ≡ whole ++ kind_byte ∷ rest
+  pub offset_is : offset ≡ length whole
   pub read : reads start whole ≡ Ok reading
   pub idle : (reading.pending ≡ []) × (reading.left ≡ 0)
   pub going : (reading.ended ≡ false) × IsSome reading.head
   pub full : max_entries ≤ length reading.entries
-  pub begins : IsSome (kind_of mark)
+  pub begins : IsSome (kind_of kind_byte)

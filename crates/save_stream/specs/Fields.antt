@@ -26,6 +26,10 @@ StreamFields text fields = (head : SetHead) × ((entries : List Saved) × Stream
 abbrev pub StreamIndex : List ℕ → List IndexEntry → Type 0
 StreamIndex text index = (head : SetHead) × ((entries : List Saved) × StreamText text head entries × (index ≡ index_of head entries))
 
+-- entries are the index of some whole stream
+abbrev pub IsIndex : List IndexEntry → Type 0
+IsIndex entries = (text : List ℕ) × StreamIndex text entries
+
 -- the fields that a reader has read, of a stream with this head and these bytes behind it
 abbrev pub fields_read : SetHead → List ℕ → Reading → Fields
 fields_read head body reading = record { head = head; files = length reading.entries; bytes = reading.read; digest = sha256 body }

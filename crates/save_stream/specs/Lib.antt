@@ -1,5 +1,7 @@
 pub mod BadField
 pub mod Fields
+pub mod Heads
+pub mod Items
 pub mod Reading
 pub mod Spelling
 pub mod Standing

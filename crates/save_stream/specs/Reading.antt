@@ -78,8 +78,8 @@ text_at least most bytes = do
 
 -- ---- the head
 
-unfoldable pub mark_at : ℕ → List ℕ → Part ℕ
-mark_at mark bytes = checked (λ byte. byte == mark) bytes (byte_at bytes)
+unfoldable pub given_byte_at : ℕ → List ℕ → Part ℕ
+given_byte_at given bytes = checked (λ byte. byte == given) bytes (byte_at bytes)
 
 unfoldable pub ssid_at : List ℕ → Part ℕ
 ssid_at bytes = checked (λ ssid. nat_lt 0 ssid) bytes (number_at 8 bytes)
@@ -100,8 +100,8 @@ moment_at least bytes = checked (λ moment. nat_le least moment && nat_le moment
 
 unfoldable pub numbers_at : List ℕ → Part HeadNumbers
 numbers_at bytes = do
-  mark ← mark_at 0x48 bytes
-  ssid ← ssid_at mark.1
+  kind_byte ← given_byte_at 0x48 bytes
+  ssid ← ssid_at kind_byte.1
   base ← base_at ssid.0 ssid.1
   level ← level_at base.0 base.1
   saved ← moment_at 0 level.1
@@ -215,8 +215,8 @@ front_at count last bytes = do
 
 unfoldable pub end_at : ℕ → List ℕ → Part ℕ
 end_at count bytes = do
-  mark ← mark_at 0x45 bytes
-  checked (λ n. n == count) mark.1 (number_at 8 mark.1)
+  kind_byte ← given_byte_at 0x45 bytes
+  checked (λ n. n == count) kind_byte.1 (number_at 8 kind_byte.1)
 
 -- ---- the stream
 
@@ -336,22 +336,6 @@ FollowsFront old new bytes (Err fault) = Faults fault (reads old bytes)
 abbrev pub KeepsHead : Option SetHead → Option SetHead → Type 0
 KeepsHead None new = Unit {0}
 KeepsHead (Some head) new = new ≡ Some head
-
--- what was read stays, and more may have come
-pub record Keeps (old new : Reading) : Type 0 where
-  pub head : KeepsHead old.head new.head
-  pub entries : (more : List IndexEntry) × (new.entries ≡ old.entries ++ more)
-
--- what it means that the bytes before byte `read` weren't read to the end of a head, an entry or an end
-abbrev pub Stopped : {T : Type 0} → Stop → ℕ → Result T StreamFault → Type 0
-Stopped stops.More read (Ok _) = Unit {0}
-Stopped stops.More read (Err fault) = ⊥
-Stopped (stops.Wrong behind) read (Ok _) = ⊥
-Stopped (stops.Wrong behind) read (Err fault) = fault ≡ faults.Bad (read - behind)
-Stopped stops.Full read (Ok _) = ⊥
-Stopped stops.Full read (Err fault) = fault ≡ faults.TooMany max_entries
-Stopped stops.Memory read (Ok _) = ⊥
-Stopped stops.Memory read (Err fault) = fault ≡ faults.Memory
 
 -- behind a head and whole entries
 abbrev pub between : SetHead → ℕ → List IndexEntry → Reading

@@ -14,7 +14,7 @@ use Rattle.save_stream.specs.declared.head.SetHead.{SetHead}
 
 -- the most entries of a stream, and the most bytes of it
 abbrev pub max_entries : ℕ
-max_entries = 10000
+max_entries = 1000000
 
 abbrev pub max_size : ℕ
 max_size = 68719476736
@@ -86,6 +86,16 @@ IsBelow one other = slice_cmp nat_cmp one other ≡ Less
 abbrev pub Ascend : List ℕ → List Saved → Type 0
 Ascend last [] = Unit {0}
 Ascend last (entry ∷ entries) = IsBelow last entry.path × Ascend entry.path entries
+
+-- the paths of an index ascend strictly, from above this one
+abbrev pub PathsAscendFrom : List ℕ → List IndexEntry → Type 0
+PathsAscendFrom low [] = Unit {0}
+PathsAscendFrom low (entry ∷ entries) = IsBelow low entry.path × PathsAscendFrom entry.path entries
+
+-- the paths of an index ascend strictly
+abbrev pub PathsAscend : List IndexEntry → Type 0
+PathsAscend [] = Unit {0}
+PathsAscend (entry ∷ entries) = PathsAscendFrom entry.path entries
 
 -- a number of two bytes
 unfoldable pub short_number_text : ℕ → List ℕ

@@ -3,7 +3,7 @@ ghost use Rattle.std.specs.Prelude.{◌≡◌, IfOk};
 use room_base::{Memory, Name};
 
 /// The most entries of a save set.
-pub const MAX_ENTRIES: usize = 10_000;
+pub const MAX_ENTRIES: usize = 1_000_000;
 
 /// The most bytes of a stream, and so of a file in it.
 pub const MAX_SIZE: u64 = 68_719_476_736;

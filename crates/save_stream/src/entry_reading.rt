@@ -4,14 +4,14 @@ ghost use Rattle.std.specs.Prelude.{◌≡◌};
 ghost use Rattle.save_stream.specs.Reading.{GivesField, kind_at, kind_of, is_below, path_at, mtime_at, size_at, front_at, end_at};
 ghost use Rattle.save_stream.specs.Texts.{front_from};
 
-use crate::field::{allow, byte_of, bytes_of, expect_mark, u16_of, u64_of};
+use crate::field::{allow, byte_of, bytes_of, expect_byte, u16_of, u64_of};
 use crate::stop::Stop;
 use crate::{EntryKind, MAX_ENTRIES, MAX_SIZE};
 use room_base::{MAX_PATH, path_text};
 use std::cmp::Ordering;
 
 /// The byte that begins an end.
-pub(crate) const END_MARK: u8 = b'E';
+pub(crate) const END_KIND: u8 = b'E';
 
 /// The fields of an entry before the bytes of its file.
 #[derive(Clone, Copy)]
@@ -116,7 +116,7 @@ fn size_of(kind: EntryKind, bytes: &[u8]) -> Result<(u64, &[u8]), Stop>
 pub(crate) fn end_of(count: usize, bytes: &[u8]) -> Result<(u64, &[u8]), Stop>
     ensures { GivesField (λ x. (x.0, x.1.now)) result (end_at count bytes.now) }
 {
-    let (_, rest) = expect_mark(END_MARK, bytes)?;
+    let (_, rest) = expect_byte(END_KIND, bytes)?;
     let (number, after) = u64_of(rest)?;
     allow(number == count as u64, rest)?;
     Ok((number, after))

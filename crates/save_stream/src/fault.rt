@@ -11,6 +11,16 @@ pub enum StreamFault {
     Memory,
 }
 
+/// Why bytes don't begin with a head.
+#[derive(Clone, Copy, Debug, PartialEq, Eq)]
+pub enum HeadFault {
+    /// Its complete fields are allowed, and the bytes end inside it.
+    Incomplete,
+    /// The first field that isn't allowed begins at `offset` of the bytes.
+    Bad { offset: u64 },
+    Memory,
+}
+
 impl From<Memory> for StreamFault {
     ghost use Rattle.std.specs.Prelude.{◌≡◌};
     ghost use Rattle.save_stream.specs.declared.fault.StreamFault.TheVariants.{Memory};

@@ -1,6 +1,6 @@
 //! Reads single fields.
 
-ghost use Rattle.save_stream.specs.Reading.{GivesField, Allows, byte_at, number_at, bytes_at, text_at, mark_at};
+ghost use Rattle.save_stream.specs.Reading.{GivesField, Allows, byte_at, number_at, bytes_at, text_at, given_byte_at};
 
 use crate::stop::Stop;
 use byteorder::{BigEndian, ByteOrder};
@@ -60,12 +60,12 @@ pub(crate) fn allow(allowed: bool, bytes: &[u8]) -> Result<(), Stop>
 }
 
 /// A byte that has to be this one.
-#[tactic(auto, unfolding(crate::specs::Reading::mark_at))]
-pub(crate) fn expect_mark(mark: u8, bytes: &[u8]) -> Result<(u8, &[u8]), Stop>
-    ensures { GivesField (λ x. (x.0, x.1.now)) result (mark_at mark bytes.now) }
+#[tactic(auto, unfolding(crate::specs::Reading::given_byte_at))]
+pub(crate) fn expect_byte(given: u8, bytes: &[u8]) -> Result<(u8, &[u8]), Stop>
+    ensures { GivesField (λ x. (x.0, x.1.now)) result (given_byte_at given bytes.now) }
 {
     let (byte, rest) = byte_of(bytes)?;
-    allow(byte == mark, bytes)?;
+    allow(byte == given, bytes)?;
     Ok((byte, rest))
 }
 

@@ -1,14 +1,15 @@
 //! Reads the head of a stream.
 
 ghost use Rattle.std.specs.Prelude.{◌≡◌, ◌≤◌, IfOk, IsTrue};
-ghost use Rattle.save_stream.specs.Reading.{GivesField, read_alone, HeadNames, head_from, ssid_at, base_at, level_at, is_level, moment_at, numbers_at, names_at, head_at};
+ghost use Rattle.save_stream.specs.Heads.{ReadsHead};
+ghost use Rattle.save_stream.specs.Reading.{GivesField, HeadNames, head_from, ssid_at, base_at, level_at, is_level, moment_at, numbers_at, names_at, head_at};
 ghost use Rattle.save_stream.specs.Texts.{names_of};
 
-use crate::encode::HEAD_MARK;
-use crate::field::{allow, byte_of, expect_mark, text_of, u64_of};
+use crate::encode::HEAD_KIND;
+use crate::field::{allow, byte_of, expect_byte, text_of, u64_of};
 use crate::level::MAX_RANK;
 use crate::stop::Stop;
-use crate::{Level, SetHead};
+use crate::{HeadFault, Level, SetHead};
 use room_base::{MAX_MOMENT, Memory, Moment, Name, Ssid};
 use std::alloc::Global;
 
@@ -32,14 +33,32 @@ pub(crate) struct HeadTexts<'a> {
     pool: &'a str,
 }
 
-/// The head that begins these bytes.
+/// Reads the head at the front of these bytes, and answers it with the bytes behind it.
+pub fn read_head(alloc: Global, bytes: &[u8]) -> Result<(SetHead, &[u8]), HeadFault>
+    ensures { ReadsHead (λ x. x.0) (λ x. x.1.now) bytes.now result }
+{
+    match head_of(alloc, bytes) {
+        Ok((head, rest)) => Ok((head, rest)),
+        Err(Stop::More) => Err(HeadFault::Incomplete),
+        Err(Stop::Wrong(behind)) => Err(HeadFault::Bad {
+            offset: (bytes.len() - behind) as u64,
+        }),
+        // A head is no entry, so that there are never too many.
+        Err(Stop::Full | Stop::Memory) => Err(HeadFault::Memory),
+    }
+}
+
+/// The head that begins these bytes, and the bytes behind it.
 #[tactic(auto, unfolding(crate::specs::Reading::head_at))]
-pub(crate) fn head_of(alloc: Global, bytes: &[u8]) -> Result<SetHead, Stop>
-    ensures { GivesField (λ head. head) result (read_alone (head_at bytes.now)) }
+pub(crate) fn head_of(alloc: Global, bytes: &[u8]) -> Result<(SetHead, &[u8]), Stop>
+    ensures { GivesField (λ x. (x.0, x.1.now)) result (head_at bytes.now) }
 {
     let (numbers, rest) = numbers_of(bytes)?;
-    let (texts, _) = texts_of(rest)?;
-    Ok(made_head(alloc, &numbers, &texts)?)
+    let (texts, rest) = texts_of(rest)?;
+    match made_head(alloc, &numbers, &texts) {
+        Ok(head) => Ok((head, rest)),
+        Err(Memory) => Err(Stop::Memory),
+    }
 }
 
 fn made_head(alloc: Global, numbers: &HeadNumbers, texts: &HeadTexts) -> Result<SetHead, Memory>
@@ -65,7 +84,7 @@ fn numbers_of(bytes: &[u8]) -> Result<(HeadNumbers, &[u8]), Stop>
     ensures read { GivesField (λ x. (x.0, x.1.now)) result (numbers_at bytes.now) }
     ensures level { IfOk result (λ x. x.0.rank ≤ 10) }
 {
-    let (_, rest) = expect_mark(HEAD_MARK, bytes)?;
+    let (_, rest) = expect_byte(HEAD_KIND, bytes)?;
     let (ssid, rest) = ssid_of(rest)?;
     let (base, rest) = base_of(ssid, rest)?;
     let (rank, rest) = level_of(base, rest)?;

@@ -1,16 +1,19 @@
 //! Laws of streams: each function has an empty body, and its contract is the law.
 
-ghost use Rattle.std.specs.Prelude.{◌≡◌, ◌↔◌, ◌≤◌, ℕ, ◌+◌, ◌++◌, ◌∷◌, List, length, Ok, Err, true};
+ghost use Rattle.std.specs.Prelude.{◌≡◌, ◌↔◌, ◌≤◌, ◌⊎◌, ℕ, ◌+◌, ◌++◌, ◌∷◌, List, length, Result, Ok, Err, true};
 ghost use Rattle.std.specs.List.{flat_map};
 ghost use Rattle.save_stream.specs.declared.head.SetHead.{SetHead};
 ghost use Rattle.save_stream.specs.declared.fault.StreamFault.{StreamFault};
 ghost use Rattle.save_stream.specs.declared.fault.StreamFault.TheVariants.{Bad, TooMany};
 ghost use Rattle.save_stream.specs.BadField.{HasBadField, HasEntryTooMany};
 ghost use Rattle.save_stream.specs.declared.entry.IndexEntry.{IndexEntry};
+ghost use Rattle.save_stream.specs.declared.fault.HeadFault.{HeadFault};
+ghost use Rattle.save_stream.specs.declared.fault.HeadFault.TheVariants as head_faults;
+ghost use Rattle.save_stream.specs.Heads.{ReadsHead};
 ghost use Rattle.save_stream.specs.Fields.{Fields, StreamFields, StreamIndex, fields_read, fields_of, HasRead};
-ghost use Rattle.save_stream.specs.Spelling.{IsHead, IsStream, Saved, StreamText, max_entries, max_size, head_text, entry_text, index_of, index_from, index_entry, stream_text, file_bytes};
+ghost use Rattle.save_stream.specs.Spelling.{IsHead, IsStream, Saved, PathsAscend, StreamText, max_entries, max_size, head_text, entry_text, index_of, index_from, index_entry, stream_text, file_bytes};
 ghost use Rattle.save_stream.specs.Reading.{Reading, at_end, behind_head, start, reads, reads_all};
-ghost use Rattle.save_stream.specs.Standing.{AreBytes, IsWhole, Stands};
+ghost use Rattle.save_stream.specs.Standing.{AreBytes, IsAllowed, IsWhole, Stands};
 
 /// A head and entries have one spelling, and no spelling begins another.
 pub fn one_spelling()
@@ -48,6 +51,29 @@ pub fn what_is_read_is_spelled()
         → reads (behind_head (length (head_text head)) head) body ≡ Ok reading → Stands (head_text head ++ body) reading }
 {}
 
+/// A text is allowed as far as it goes, or has a first field that isn't, or one entry too many. What is
+/// allowed is read, and so is each front of it, also of a whole stream.
+pub fn texts_are_allowed_or_bad()
+    ensures each { (text : List ℕ) → IsAllowed text ⊎ ((offset : ℕ) × (HasBadField text offset ⊎ HasEntryTooMany text offset)) }
+    ensures bad { (text : List ℕ) (offset : ℕ) → HasBadField text offset → ¬ (IsAllowed text) }
+    ensures many { (text : List ℕ) (offset : ℕ) → HasEntryTooMany text offset → ¬ (IsAllowed text) }
+    ensures front { (text more : List ℕ) → IsAllowed (text ++ more) → IsAllowed text }
+    ensures stream { (text more : List ℕ) → IsWhole (text ++ more) → IsAllowed text }
+    ensures read { (text : List ℕ) → AreBytes text → IsAllowed text
+        → (reading : Reading) × (reads start text ≡ Ok reading) × Stands text reading }
+{}
+
+/// The paths of what is read so far ascend.
+pub fn paths_that_are_read_ascend()
+    ensures { (text : List ℕ) (reading : Reading) → Stands text reading → PathsAscend reading.entries }
+{}
+
+/// Where bytes begin with the text of a head, nothing but that head is read, unless memory runs out.
+pub fn heads_are_read()
+    ensures { (head : SetHead) (rest : List ℕ) (answer : Result (SetHead × List ℕ) HeadFault) → IsHead head
+        → ReadsHead (λ x. x.0) (λ x. x.1) (head_text head ++ rest) answer → (answer ≡ Ok (head, rest)) ⊎ (answer ≡ Err head_faults.Memory) }
+{}
+
 /// What is read to an end is a whole stream.
 pub fn ended_streams_are_whole()
     ensures { (text : List ℕ) (reading : Reading) → Stands text reading → reading.ended ≡ true → length text ≤ max_size → IsWhole text }
@@ -80,5 +106,5 @@ pub fn ends_have_the_fields()
 /// and `TooMany` exactly where one more entry begins than there may be.
 pub fn faults_have_their_causes()
     ensures bad { (stream : List ℕ) (offset : ℕ) → (reads start stream ≡ Err (Bad offset)) ↔ HasBadField stream offset }
-    ensures many { (stream : List ℕ) (limit : ℕ) → (reads start stream ≡ Err (TooMany limit)) ↔ ((limit ≡ max_entries) × HasEntryTooMany stream) }
+    ensures many { (stream : List ℕ) (limit : ℕ) → (reads start stream ≡ Err (TooMany limit)) ↔ ((limit ≡ max_entries) × ((offset : ℕ) × HasEntryTooMany stream offset)) }
 {}

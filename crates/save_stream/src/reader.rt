@@ -1,19 +1,19 @@
 //! Reads a stream that comes in pieces.
 
-ghost use Rattle.std.specs.Prelude.{◌≡◌, ◌+◌, ◌≤◌, ◌^◌, length, IfOk, OnErr, option_copied};
-ghost use Rattle.save_stream.specs.Spelling.{IsHead, head_text};
+ghost use Rattle.std.specs.Prelude.{◌≡◌, ◌+◌, ◌≤◌, ◌^◌, length, true, IfOk, OnErr, option_copied};
+ghost use Rattle.save_stream.specs.Fields.{IsIndex};
+ghost use Rattle.save_stream.specs.Spelling.{IsHead, PathsAscend, head_text};
 ghost use Rattle.save_stream.specs.Reading.{FollowsReading, start, behind_head, reads};
+ghost use Rattle.save_stream.specs.Standing.{IsStreamSoFar};
 ghost use Rattle.save_stream.specs.View.{reading_of};
 
-use crate::encode::HEAD_SIZE;
-use crate::state::State;
+use crate::encode::head_length;
+use crate::progress::Progress;
+use crate::state::{MAX_PENDING, State};
 use crate::{IndexEntry, SetHead, StreamFault};
 use room_base::Memory;
 use std::alloc::Global;
 use std::marker::Model;
-
-/// The most bytes of a head, an entry or an end that isn't complete: an entry of a file lacks a byte.
-const MAX_PENDING: usize = 1043;
 
 /// Reads the stream of a save set, which may come in any pieces. Contracts see what it has read.
 #[derive(Debug, Drop)]
@@ -30,6 +30,10 @@ impl Model for StreamReader {
     ghost use Rattle.save_stream.specs.View.{reading_of};
 
     ghost view = { λ reader. reading_of reader.state };
+
+    ghost use Rattle.save_stream.specs.Standing.{IsStreamSoFar};
+
+    ghost invariant = { λ reader. IsStreamSoFar (reading_of reader.state) };
 }
 
 impl StreamReader {
@@ -45,20 +49,25 @@ impl StreamReader {
         requires { IsHead head }
         ensures { IfOk result (λ reader. reader ≡ behind_head (length (head_text head)) head) }
     {
-        let read = head_size(&head);
+        let read = head_length(&head.parts());
         StreamReader::from(alloc, read, Some(head))
     }
 
     fn from(alloc: Global, read: u64, head: Option<SetHead>) -> Result<StreamReader, Memory>
+        requires { IsStreamSoFar (record start { read = read; head = head }) }
         ensures { IfOk result (λ reader. reader ≡ record start { read = read; head = head }) }
     {
-        let state = State {
+        let progress = Progress {
             read,
             left: 0,
             ended: false,
             head,
             entries: Vec::new(alloc),
+        };
+        let state = State {
+            progress,
             pending: Vec::with_capacity(alloc, MAX_PENDING)?,
+            done: 0,
         };
         Ok(StreamReader { alloc, state })
     }
@@ -69,11 +78,11 @@ impl StreamReader {
         ensures read { FollowsReading (reads self.old piece.now) result self.new }
         ensures err { OnErr result (self.new ≡ self.old) }
     {
-        let mark = self.state.mark(self.alloc)?;
+        let savepoint = self.state.savepoint();
         match self.state.take(self.alloc, piece) {
             Ok(()) => Ok(()),
             Err(fault) => {
-                self.state.go_back(mark);
+                self.state.go_back(savepoint);
                 Err(fault)
             }
         }
@@ -83,39 +92,40 @@ impl StreamReader {
     pub fn ended(&self) -> bool
         ensures { result ≡ self.now.ended }
     {
-        self.state.ended
+        self.state.progress.ended
     }
 
     /// The head of the stream, once it was read.
     pub fn head(&self) -> Option<&SetHead>
         ensures { option_copied result ≡ self.now.head }
     {
-        self.state.head.as_ref()
+        self.state.progress.head.as_ref()
     }
 
     /// The entries that were read, up to the bytes of their files.
     pub fn entries(&self) -> &[IndexEntry]
-        ensures { result.now ≡ self.now.entries }
+        ensures value { result.now ≡ self.now.entries }
+        ensures order { PathsAscend result.now }
     {
-        &self.state.entries
+        &self.state.progress.entries
+    }
+
+    /// Hands over the index of a stream that has ended.
+    pub fn into_entries(self) -> Vec<IndexEntry>
+        requires { self.ended ≡ true }
+        ensures value { result.items ≡ self.entries }
+        ensures order { PathsAscend result.items }
+        ensures index { IsIndex result.items }
+    {
+        let state = self.state;
+        let progress = state.progress;
+        progress.entries
     }
 
     /// How many bytes of the stream were read, with those of a head that was given.
     pub fn read(&self) -> u64
         ensures { result ≡ self.now.read }
     {
-        self.state.read
+        self.state.progress.read
     }
-}
-
-// How many bytes the text of a head has.
-fn head_size(head: &SetHead) -> u64
-    requires { IsHead head.now }
-    ensures { result ≡ length (head_text head.now) }
-{
-    let client = head.client.as_bytes().len();
-    let set = head.set.as_bytes().len();
-    let group = head.group.as_bytes().len();
-    let pool = head.pool.as_bytes().len();
-    (HEAD_SIZE + client + set + group + pool) as u64
 }

@@ -1,225 +1,181 @@
-//! What a reader knows of its stream, and how it takes bytes.
+//! How a reader takes the bytes of its stream.
 
-ghost use Rattle.std.specs.Prelude.{◌≡◌, ◌+◌, ◌<◌, ◌≤◌, ◌^◌, length, IfOk, None};
-ghost use Rattle.save_stream.specs.Reading.{Reading, FollowsReading, FollowsFront, Keeps, settle, settled, settle_rest, with_head, with_entry, with_end, entry_from, last_path, reads, read_alone, head_at, front_at, end_at, begins_end, Stopped};
-ghost use Rattle.save_stream.specs.Texts.{front_from};
-ghost use Rattle.save_stream.specs.View.{reading_of, IsMark};
+ghost use Rattle.std.specs.Prelude.{◌≡◌, ◌+◌, ◌<◌, ◌≤◌, ◌^◌, false, length, vec_len, OnOk, OnErr};
+ghost use Rattle.save_stream.specs.Items.{IsWaiting};
+ghost use Rattle.save_stream.specs.Reading.{FollowsReading, FollowsFront, reads};
+ghost use Rattle.save_stream.specs.View.{reading_of, Keeps, IsSavepoint};
 
-use crate::entry_reading::{END_MARK, EntryFront, end_of, front_of};
-use crate::head_reading::head_of;
-use crate::stop::Stop;
-use crate::{EntryKind, IndexEntry, MAX_ENTRIES, SetHead, StreamFault};
-use room_base::{Memory, Name};
-use std::alloc::{AllocError, Global};
+use crate::StreamFault;
+use crate::progress::Progress;
+use std::alloc::Global;
 
-/// What is read of a stream.
+/// The most bytes of a head, an entry up to those of its file, or an end: an entry of a file with the
+/// longest path.
+const MAX_ITEM: usize = 1043;
+
+/// The most bytes that are pending while a piece is taken: an item that was begun before it, and one that
+/// is cut off behind it.
+pub(crate) const MAX_PENDING: usize = 2 * MAX_ITEM;
+
+/// What is read of a stream, with the bytes of an item that isn't complete.
 #[derive(Debug, Drop)]
 pub(crate) struct State {
-    /// How many bytes.
-    pub(crate) read: u64,
-    /// How many bytes are still to come of the last entry's file.
-    pub(crate) left: u64,
-    pub(crate) ended: bool,
-    pub(crate) head: Option<SetHead>,
-    pub(crate) entries: Vec<IndexEntry>,
-    /// The bytes of a head, an entry or an end that isn't complete.
+    pub(crate) progress: Progress,
+    /// The first `done` bytes are of an item that the piece at hand completed.
     pub(crate) pending: Vec<u8>,
+    pub(crate) done: usize,
 }
 
-/// What a reader has to know of its state before a piece, to go back to it.
-#[derive(Debug, Drop)]
-pub(crate) struct Mark {
+/// What has to be known of a state before a piece, to go back to it.
+#[derive(Clone, Copy, Debug)]
+pub(crate) struct Savepoint {
     read: u64,
     left: u64,
     ended: bool,
     has_head: bool,
     /// How many entries there are.
-    count: usize,
-    pending: Vec<u8>,
+    entries: usize,
+    /// How many bytes are pending.
+    pending: usize,
+    done: usize,
 }
 
 impl State {
-    pub(crate) fn mark(&self, alloc: Global) -> Result<Mark, AllocError>
-        ensures { IfOk result (λ mark. IsMark mark (reading_of self.now)) }
+    pub(crate) fn savepoint(&self) -> Savepoint
+        ensures { IsSavepoint result self.now }
     {
-        Ok(Mark {
-            read: self.read,
-            left: self.left,
-            ended: self.ended,
-            has_head: self.head.is_some(),
-            count: self.entries.len(),
-            pending: Vec::from_slice(alloc, &self.pending)?,
-        })
+        Savepoint {
+            read: self.progress.read,
+            left: self.progress.left,
+            ended: self.progress.ended,
+            has_head: self.progress.head.is_some(),
+            entries: self.progress.entries.len(),
+            pending: self.pending.len(),
+            done: self.done,
+        }
     }
 
     /// Goes back to what the state was, when a part of a piece was taken since.
-    pub(crate) fn go_back(&mut self, mark: Mark)
-        ensures { (old : Reading) → IsMark mark old → Keeps old (reading_of self.old) → reading_of self.new ≡ old }
+    pub(crate) fn go_back(&mut self, savepoint: Savepoint)
+        ensures { (old : State) → IsSavepoint savepoint old → Keeps old self.old → reading_of self.new ≡ reading_of old }
     {
-        self.read = mark.read;
-        self.left = mark.left;
-        self.ended = mark.ended;
-        self.pending = mark.pending;
-        self.entries.truncate(mark.count);
-        if !mark.has_head {
-            self.head = None;
+        self.progress.read = savepoint.read;
+        self.progress.left = savepoint.left;
+        self.progress.ended = savepoint.ended;
+        self.progress.entries.truncate(savepoint.entries);
+        if !savepoint.has_head {
+            self.progress.head = None;
         }
+        self.pending.truncate(savepoint.pending);
+        self.done = savepoint.done;
     }
 
     /// Takes a piece. After an `Err` a part of it was taken.
     pub(crate) fn take(&mut self, alloc: Global, piece: &[u8]) -> Result<(), StreamFault>
-        requires { self.old.read + length piece.now ≤ 2 ^ 36 }
+        requires room { self.old.progress.read + length piece.now ≤ 2 ^ 36 }
+        requires waiting { IsWaiting (reading_of self.old) }
         ensures read { FollowsReading (reads (reading_of self.old) piece.now) result (reading_of self.new) }
-        ensures kept { Keeps (reading_of self.old) (reading_of self.new) }
+        ensures kept { OnErr result (Keeps self.old self.new) }
     {
         let mut rest = piece;
         while !rest.is_empty() {
             let count = self.take_front(alloc, rest)?;
             rest = &rest[count..];
         }
+        self.forget_done();
         Ok(())
     }
 
-    // Takes the next byte, or as many as the file still has, and answers how many.
+    // Takes bytes of a file, an item, or all bytes where it isn't complete, and answers how many.
     fn take_front(&mut self, alloc: Global, bytes: &[u8]) -> Result<usize, StreamFault>
         requires some { 0 < length bytes.now }
-        requires room { self.old.read + length bytes.now ≤ 2 ^ 36 }
+        requires room { self.old.progress.read + length bytes.now ≤ 2 ^ 36 }
+        requires waiting { IsWaiting (reading_of self.old) }
         ensures read { FollowsFront (reading_of self.old) (reading_of self.new) bytes.now result }
-        ensures kept { Keeps (reading_of self.old) (reading_of self.new) }
+        ensures waiting { OnOk result (IsWaiting (reading_of self.new)) }
+        ensures kept { Keeps self.old self.new }
     {
-        if self.ended {
-            return Err(StreamFault::Bad { offset: self.read });
+        if self.progress.ended {
+            return Err(StreamFault::Bad {
+                offset: self.progress.read,
+            });
         }
-        if self.left > 0 {
-            let count = self.left.min(bytes.len() as u64);
-            self.left -= count;
-            self.read += count;
+        if self.progress.left > 0 {
+            let count = self.progress.left.min(bytes.len() as u64);
+            self.progress.left -= count;
+            self.progress.read += count;
             return Ok(count as usize);
         }
-        self.pending.push(bytes[0])?;
-        self.read += 1;
-        self.settle(alloc)?;
-        Ok(1)
-    }
-
-    // Reads the pending bytes as far as they go.
-    #[tactic(auto, unfolding(crate::specs::Reading::settle))]
-    fn settle(&mut self, alloc: Global) -> Result<(), StreamFault>
-        ensures read { FollowsReading (settle (reading_of self.old)) result (reading_of self.new) }
-        ensures kept { Keeps (reading_of self.old) (reading_of self.new) }
-        ensures count { self.new.read ≡ self.old.read }
-    {
-        if self.head.is_none() {
-            self.settle_head(alloc)
-        } else if self.begins_end() {
-            self.settle_end()
+        if self.done < self.pending.len() {
+            self.take_pending(alloc, bytes)
         } else {
-            self.settle_entry(alloc)
+            self.take_next(alloc, bytes)
         }
     }
 
-    fn begins_end(&self) -> bool
-        ensures { result ≡ begins_end self.now.pending.items }
+    // Takes the item that begins these bytes; nothing is pending.
+    fn take_next(&mut self, alloc: Global, bytes: &[u8]) -> Result<usize, StreamFault>
+        requires some { 0 < length bytes.now }
+        requires room { self.old.progress.read + length bytes.now ≤ 2 ^ 36 }
+        requires waiting { IsWaiting (reading_of self.old) }
+        requires going { (self.old.progress.ended ≡ false) × (self.old.progress.left ≡ 0) }
+        requires none { vec_len self.old.pending ≤ self.old.done }
+        ensures read { FollowsFront (reading_of self.old) (reading_of self.new) bytes.now result }
+        ensures waiting { OnOk result (IsWaiting (reading_of self.new)) }
+        ensures kept { Keeps self.old self.new }
     {
-        match self.pending.as_slice() {
-            [first, ..] => *first == END_MARK,
-            [] => false,
-        }
-    }
-
-    fn settle_head(&mut self, alloc: Global) -> Result<(), StreamFault>
-        requires { self.old.head ≡ None }
-        ensures read { let old = reading_of self.old in
-            FollowsReading (settled (with_head old) old (read_alone (head_at old.pending))) result (reading_of self.new) }
-        ensures kept { Keeps (reading_of self.old) (reading_of self.new) }
-        ensures count { self.new.read ≡ self.old.read }
-    {
-        match head_of(alloc, &self.pending) {
-            Ok(head) => {
-                self.head = Some(head);
-                self.pending.clear();
-                Ok(())
+        let end = self.progress.read + bytes.len() as u64;
+        match self.progress.take_item(alloc, bytes, end) {
+            Ok(Some(behind)) => Ok(bytes.len() - behind),
+            Ok(None) => {
+                let done = self.pending.len();
+                self.pending.extend_from_slice(bytes)?;
+                self.progress.read = end;
+                self.done = done;
+                Ok(bytes.len())
             }
-            Err(stop) => stopped(stop, self.read),
+            Err(fault) => Err(fault),
         }
     }
 
-    fn settle_end(&mut self) -> Result<(), StreamFault>
-        ensures read { let old = reading_of self.old in
-            FollowsReading (settled (with_end old) old (read_alone (end_at (length old.entries) old.pending))) result (reading_of self.new) }
-        ensures kept { Keeps (reading_of self.old) (reading_of self.new) }
-        ensures count { self.new.read ≡ self.old.read }
+    // Takes the item that begins the pending bytes with the first of these behind them.
+    fn take_pending(&mut self, alloc: Global, bytes: &[u8]) -> Result<usize, StreamFault>
+        requires some { 0 < length bytes.now }
+        requires room { self.old.progress.read + length bytes.now ≤ 2 ^ 36 }
+        requires waiting { IsWaiting (reading_of self.old) }
+        requires going { (self.old.progress.ended ≡ false) × (self.old.progress.left ≡ 0) }
+        requires some_pending { self.old.done < vec_len self.old.pending }
+        ensures read { FollowsFront (reading_of self.old) (reading_of self.new) bytes.now result }
+        ensures waiting { OnOk result (IsWaiting (reading_of self.new)) }
+        ensures kept { Keeps self.old self.new }
     {
-        match end_of(self.entries.len(), &self.pending) {
-            Ok(_) => {
-                self.ended = true;
-                self.pending.clear();
-                Ok(())
+        let count = bytes.len().min(MAX_ITEM);
+        self.pending.extend_from_slice(&bytes[..count])?;
+        let end = self.progress.read + count as u64;
+        let pending = &self.pending[self.done..];
+        match self.progress.take_item(alloc, pending, end) {
+            Ok(Some(behind)) => {
+                let done = self.pending.len() - behind;
+                self.pending.truncate(done);
+                self.done = done;
+                Ok(count - behind)
             }
-            Err(stop) => stopped(stop, self.read),
+            Ok(None) => {
+                self.progress.read = end;
+                Ok(count)
+            }
+            Err(fault) => Err(fault),
         }
     }
 
-    fn settle_entry(&mut self, alloc: Global) -> Result<(), StreamFault>
-        ensures read { let old = reading_of self.old in
-            FollowsReading (settled (with_entry old) old (read_alone (front_at (length old.entries) (last_path old.entries) old.pending))) result (reading_of self.new) }
-        ensures kept { Keeps (reading_of self.old) (reading_of self.new) }
-        ensures count { self.new.read ≡ self.old.read }
+    // Drops the bytes of an item that is complete.
+    fn forget_done(&mut self)
+        ensures { reading_of self.new ≡ reading_of self.old }
     {
-        let last = last_path(&self.entries);
-        match front_of(self.entries.len(), last, &self.pending) {
-            Ok((front, _)) => {
-                let entry = entry_from(alloc, self.read, &front)?;
-                self.left = entry.size;
-                self.entries.push(entry)?;
-                self.pending.clear();
-                Ok(())
-            }
-            Err(stop) => stopped(stop, self.read),
-        }
-    }
-}
-
-// The path of the last entry; without entries the text without bytes, which is below every path.
-fn last_path(entries: &[IndexEntry]) -> &[u8]
-    ensures { result.now ≡ last_path entries.now }
-{
-    match entries {
-        [.., last] => last.path.as_bytes(),
-        [] => &[],
-    }
-}
-
-// The entry of these fields, whose file's bytes stand behind the `read` first ones.
-fn entry_from(alloc: Global, read: u64, front: &EntryFront) -> Result<IndexEntry, Memory>
-    ensures { IfOk result (λ entry. entry ≡ entry_from read (front_from front.now)) }
-{
-    let place = match front.kind {
-        EntryKind::File => read,
-        EntryKind::Folder | EntryKind::Gone => 0,
-    };
-    Ok(IndexEntry {
-        kind: front.kind,
-        path: Name::from_text(alloc, front.path)?,
-        mtime: front.mtime,
-        size: front.size,
-        place,
-    })
-}
-
-// What it means that the bytes before byte `read` weren't read to the end of a head, an entry or an end.
-// A field that isn't allowed begins among these bytes, so the difference is never cut off at 0.
-fn stopped(stop: Stop, read: u64) -> Result<(), StreamFault>
-    ensures { Stopped stop read result }
-{
-    match stop {
-        Stop::More => Ok(()),
-        Stop::Wrong(behind) => Err(StreamFault::Bad {
-            offset: read.saturating_sub(behind as u64),
-        }),
-        Stop::Full => Err(StreamFault::TooMany {
-            limit: MAX_ENTRIES as u64,
-        }),
-        Stop::Memory => Err(StreamFault::Memory),
+        let done = self.done.min(self.pending.len());
+        let left = self.pending.len() - done;
+        self.pending.rotate_left(done);
+        self.pending.truncate(left);
+        self.done = 0;
     }
 }

@@ -106,6 +106,20 @@ fn head_has_its_bytes(rt: HostRuntime) -> Result<(), Fail> {
 }
 
 #[test]
+fn head_alone_has_its_faults(rt: HostRuntime) -> Result<(), Fail> {
+    let alloc = rt.alloc();
+    let head = sample_head(alloc)?;
+    let all = changed(alloc, &BODY, 200, 0)?;
+    assert!(rt;
+        matches!(read_head(alloc, &all), Ok((read, rest)) if read == head && rest == BODY.as_slice())
+    );
+    assert!(rt; matches!(read_head(alloc, &HEAD[..69]), Err(HeadFault::Incomplete)));
+    let bad = changed(alloc, &BODY, 53, 0x1f)?;
+    assert!(rt; matches!(read_head(alloc, &bad), Err(HeadFault::Bad { offset: 49 })));
+    Ok(())
+}
+
+#[test]
 fn body_is_read_in_any_two_pieces(rt: HostRuntime) -> Result<(), Fail> {
     let alloc = rt.alloc();
     for cut in 0..BODY.len() + 1 {
@@ -248,9 +262,9 @@ fn bytes_of_files_are_not_kept(rt: HostRuntime) -> Result<(), Fail> {
     let alloc = rt.alloc();
     let mut reader = StreamReader::after(alloc, sample_head(alloc)?)?;
     let room = reader.state.pending.capacity();
-    let piece = vec![in alloc; b'E'; 65_536]?;
+    let piece = vec![in alloc; b'E'; 131_072]?;
     assert_eq!(rt; fed(&mut reader, &LONG_FILE), Ok(()));
-    for _ in 0..256 {
+    for _ in 0..128 {
         assert_eq!(rt; fed(&mut reader, &piece), Ok(()));
         assert!(rt; keeps_nothing(&reader, room));
     }
@@ -282,40 +296,37 @@ fn path_that_does_not_ascend_is_bad(rt: HostRuntime) -> Result<(), Fail> {
     Ok(())
 }
 
-// The entry of a path of five digits that is gone.
-fn gone(number: u32) -> [u8; 9] {
-    let digit = |ten: u32| b'0' + (number / ten % 10) as u8;
-    [
-        b'G',
-        0,
-        6,
-        b'/',
-        digit(10_000),
-        digit(1000),
-        digit(100),
-        digit(10),
-        digit(1),
-    ]
+// The entries of paths of six digits that are gone, of 10,000 numbers from this one on.
+fn gone(alloc: Global, from: u32) -> Result<Vec<u8>, Memory> {
+    let mut piece = Vec::new(alloc);
+    for number in 0..10_000 {
+        piece.extend_from_slice(b"G\x00\x07/")?;
+        for ten in &[100_000, 10_000, 1000, 100, 10, 1] {
+            piece.push(b'0' + (from.wrapping_add(number) / *ten % 10) as u8)?;
+        }
+    }
+    Ok(piece)
 }
 
 #[test]
 fn one_entry_too_many(rt: HostRuntime) -> Result<(), Fail> {
     let alloc = rt.alloc();
     let mut reader = StreamReader::after(alloc, sample_head(alloc)?)?;
-    for number in 0..10_000 {
-        assert_eq!(rt; fed(&mut reader, &gone(number)), Ok(()));
+    for part in 0..100 {
+        let piece = gone(alloc, 10_000 * part)?;
+        assert_eq!(rt; fed(&mut reader, &piece), Ok(()));
     }
     assert_eq!(rt;
         fed(&mut reader, b"D"),
-        Err(StreamFault::TooMany { limit: 10_000 })
+        Err(StreamFault::TooMany { limit: 1_000_000 })
     );
     assert_eq!(rt;
         fed(&mut reader, b"X"),
-        Err(StreamFault::Bad { offset: 90_070 })
+        Err(StreamFault::Bad { offset: 10_000_070 })
     );
-    assert_eq!(rt; reader.entries().len(), 10_000);
+    assert_eq!(rt; reader.entries().len(), 1_000_000);
     assert_eq!(rt;
-        fed(&mut reader, &[b'E', 0, 0, 0, 0, 0, 0, 0x27, 0x10]),
+        fed(&mut reader, &[b'E', 0, 0, 0, 0, 0, 0x0f, 0x42, 0x40]),
         Ok(())
     );
     assert!(rt; reader.ended());

@@ -7,4 +7,4 @@ pub returns-clause-bad : goal.returns-clause-bad
 returns-clause-bad c = λ stream offset. (has-fault stream (Bad offset), bad-is-fault stream offset)
 
 pub returns-clause-many : goal.returns-clause-many
-returns-clause-many c = λ stream limit. (has-fault stream (TooMany limit), many-is-fault stream limit)
+returns-clause-many c = λ stream limit. (has-fault stream (TooMany limit), λ is. many-is-fault stream limit is.1.0 is.0 is.1.1)

@@ -1,10 +1,9 @@
 use Rattle.std.proofs.Common.{length}
-use Rattle.save_stream.specs.View.{reading_of}
 use Rattle.save_stream.proofs.Taking.{Goes}
 use Rattle.save_stream.proofs.state.State.take.Given as goal
 
 abbrev pub invariant-loop-rest : goal.invariant-loop-rest
-invariant-loop-rest l = Goes (reading_of l.fn.self) (reading_of l.self) l.piece l.rest
+invariant-loop-rest l = Goes l.fn.self l.self l.piece l.rest
 
 abbrev pub decreases-loop-rest : goal.decreases-loop-rest
 decreases-loop-rest l = length l.rest

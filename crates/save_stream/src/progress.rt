@@ -1,0 +1,163 @@
+//! What is read of a stream item by item: a head, entries and an end.
+
+ghost use Rattle.std.specs.Prelude.{◌≡◌, true, false, None, IfOk, IsSome};
+ghost use Rattle.save_stream.specs.Reading.{last_path, entry_from, begins_end};
+ghost use Rattle.save_stream.specs.Items.{TakesNext, Stopped};
+ghost use Rattle.save_stream.specs.Texts.{front_from};
+ghost use Rattle.save_stream.specs.View.{idle_reading, KeepsProgress};
+
+use crate::entry_reading::{END_KIND, EntryFront, end_of, front_of};
+use crate::head_reading::head_of;
+use crate::stop::Stop;
+use crate::{EntryKind, IndexEntry, MAX_ENTRIES, SetHead, StreamFault};
+use room_base::{Memory, Name};
+use std::alloc::Global;
+
+/// What is read of a stream.
+#[derive(Debug, Drop)]
+pub(crate) struct Progress {
+    /// How many bytes.
+    pub(crate) read: u64,
+    /// How many bytes are still to come of the last entry's file.
+    pub(crate) left: u64,
+    pub(crate) ended: bool,
+    pub(crate) head: Option<SetHead>,
+    pub(crate) entries: Vec<IndexEntry>,
+}
+
+impl Progress {
+    /// Takes the item that begins these bytes, which end at byte `end` of the stream, and answers how
+    /// many of them are behind it; `None`, where it isn't complete.
+    pub(crate) fn take_item(
+        &mut self,
+        alloc: Global,
+        bytes: &[u8],
+        end: u64,
+    ) -> Result<Option<usize>, StreamFault>
+        ensures read { TakesNext (idle_reading self.old) (idle_reading self.new) end bytes.now result }
+        ensures kept { KeepsProgress self.old self.new }
+    {
+        if self.head.is_none() {
+            self.take_head(alloc, bytes, end)
+        } else if begins_end(bytes) {
+            self.take_end(bytes, end)
+        } else {
+            self.take_entry(alloc, bytes, end)
+        }
+    }
+
+    fn take_head(
+        &mut self,
+        alloc: Global,
+        bytes: &[u8],
+        end: u64,
+    ) -> Result<Option<usize>, StreamFault>
+        requires { self.old.head ≡ None }
+        ensures read { TakesNext (idle_reading self.old) (idle_reading self.new) end bytes.now result }
+        ensures kept { KeepsProgress self.old self.new }
+    {
+        match head_of(alloc, bytes) {
+            Ok((head, rest)) => {
+                self.head = Some(head);
+                self.read = end.saturating_sub(rest.len() as u64);
+                Ok(Some(rest.len()))
+            }
+            Err(stop) => stopped(stop, end),
+        }
+    }
+
+    fn take_end(&mut self, bytes: &[u8], end: u64) -> Result<Option<usize>, StreamFault>
+        requires some { IsSome self.old.head }
+        requires begins { begins_end bytes.now ≡ true }
+        ensures read { TakesNext (idle_reading self.old) (idle_reading self.new) end bytes.now result }
+        ensures kept { KeepsProgress self.old self.new }
+    {
+        match end_of(self.entries.len(), bytes) {
+            Ok((_, rest)) => {
+                self.ended = true;
+                self.read = end.saturating_sub(rest.len() as u64);
+                Ok(Some(rest.len()))
+            }
+            Err(stop) => stopped(stop, end),
+        }
+    }
+
+    fn take_entry(
+        &mut self,
+        alloc: Global,
+        bytes: &[u8],
+        end: u64,
+    ) -> Result<Option<usize>, StreamFault>
+        requires some { IsSome self.old.head }
+        requires begins { begins_end bytes.now ≡ false }
+        ensures read { TakesNext (idle_reading self.old) (idle_reading self.new) end bytes.now result }
+        ensures kept { KeepsProgress self.old self.new }
+    {
+        let last = last_path(&self.entries);
+        match front_of(self.entries.len(), last, bytes) {
+            Ok((front, rest)) => {
+                let place = end.saturating_sub(rest.len() as u64);
+                let entry = entry_from(alloc, place, &front)?;
+                let size = entry.size;
+                self.entries.push(entry)?;
+                self.left = size;
+                self.read = place;
+                Ok(Some(rest.len()))
+            }
+            Err(stop) => stopped(stop, end),
+        }
+    }
+}
+
+fn begins_end(bytes: &[u8]) -> bool
+    ensures { result ≡ begins_end bytes.now }
+{
+    match bytes {
+        [first, ..] => *first == END_KIND,
+        [] => false,
+    }
+}
+
+// The path of the last entry; without entries the text without bytes, which is below every path.
+fn last_path(entries: &[IndexEntry]) -> &[u8]
+    ensures { result.now ≡ last_path entries.now }
+{
+    match entries {
+        [.., last] => last.path.as_bytes(),
+        [] => &[],
+    }
+}
+
+// The entry of these fields, whose file's bytes stand behind the `read` first ones.
+fn entry_from(alloc: Global, read: u64, front: &EntryFront) -> Result<IndexEntry, Memory>
+    ensures { IfOk result (λ entry. entry ≡ entry_from read (front_from front.now)) }
+{
+    let place = match front.kind {
+        EntryKind::File => read,
+        EntryKind::Folder | EntryKind::Gone => 0,
+    };
+    Ok(IndexEntry {
+        kind: front.kind,
+        path: Name::from_text(alloc, front.path)?,
+        mtime: front.mtime,
+        size: front.size,
+        place,
+    })
+}
+
+// What it means that bytes which end at byte `end` weren't read to the end of an item. A field that isn't
+// allowed begins among these bytes, so the difference is never cut off at 0.
+fn stopped(stop: Stop, end: u64) -> Result<Option<usize>, StreamFault>
+    ensures { Stopped stop end result }
+{
+    match stop {
+        Stop::More => Ok(None),
+        Stop::Wrong(behind) => Err(StreamFault::Bad {
+            offset: end.saturating_sub(behind as u64),
+        }),
+        Stop::Full => Err(StreamFault::TooMany {
+            limit: MAX_ENTRIES as u64,
+        }),
+        Stop::Memory => Err(StreamFault::Memory),
+    }
+}
