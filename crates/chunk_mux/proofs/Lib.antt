@@ -1,8 +1,12 @@
+pub mod Allowing
 mod Buffers
+pub mod Counting
 mod Faults
 mod Holding
 pub mod Joining
+pub mod Numbers
 pub mod Packing
 mod Reading
 mod SealedBlocks
+pub mod Spans
 mod Walking

@@ -2,6 +2,8 @@ pub mod Buffer
 pub mod Lending
 pub mod Packing
 pub mod Sealing
+pub mod Sections
+pub mod Spans
 pub mod Text
 pub mod Pushes
 pub mod Tiles

@@ -69,6 +69,10 @@ pack blocks ssid copy offset piece = packed payload_size blocks ssid copy offset
 
 -- The first data block that a piece goes into, counted from 0. That of a piece without bytes is the last
 -- block.
+abbrev pub first_in : ℕ → List (List ChunkText) → List ℕ → ℕ
+first_in size blocks [] = length blocks - 1
+first_in size blocks (byte ∷ more) = if room_in size blocks == 0 then length blocks else length blocks - 1
+
+-- the same in a buffer
 abbrev pub first_used : List (List ChunkText) → List ℕ → ℕ
-first_used blocks [] = length blocks - 1
-first_used blocks (byte ∷ more) = if room_in payload_size blocks == 0 then length blocks else length blocks - 1
+first_used blocks piece = first_in payload_size blocks piece

@@ -11,15 +11,15 @@ use Rattle.chunk_mux.specs.Text.{Hold}
 use Rattle.chunk_mux.specs.Buffer.{used_in, data_in}
 use Rattle.chunk_mux.proofs.buffer.MuxBuffer.seal.Goals as goal
 
-pub seal_region-requires-clause-count : goal.seal_region-requires-clause-count
-seal_region-requires-clause-count c =
+pub make_region-requires-clause-count : goal.make_region-requires-clause-count
+make_region-requires-clause-count c =
     let many : length c.args.self.now ≡ c.self.inside.begun = as_many c.self.inside c.args.self.now c.self.view_is c.self.invariant in
     let long : length (take c.self.inside.begun c.self.inside.used) ≡ c.self.inside.begun =
     omega (arith, length-take c.self.inside.begun c.self.inside.used, c.self.invariant.places, c.self.invariant.counted) in
     (omega arith, omega arith)
 
-pub seal_region-requires-clause-fits : goal.seal_region-requires-clause-fits
-seal_region-requires-clause-fits c =
+pub make_region-requires-clause-fits : goal.make_region-requires-clause-fits
+make_region-requires-clause-fits c =
     held_small c.args.self.now (used_in c.self.inside) (data_in c.self.inside) (stands c.self.inside c.args.self.now c.self.view_is c.self.invariant)
 
 pub returns : goal.returns
