@@ -3,10 +3,12 @@ mod Buffers
 pub mod Counting
 mod Faults
 mod Holding
+pub mod InOrder
 pub mod Joining
 pub mod Numbers
 pub mod Packing
 mod Reading
 mod SealedBlocks
+pub mod Sections
 pub mod Spans
 mod Walking

@@ -8,6 +8,7 @@ ghost use Rattle.chunk_mux.specs.Packing.{payload_size, chunk_size, pack, packed
 ghost use Rattle.chunk_mux.specs.Pushes.{Push, AddsChunks, pushed, bytes_of, pieces_of, has_set};
 ghost use Rattle.chunk_mux.specs.Spans.{HasOneMore, begun_by, room_after};
 ghost use Rattle.std.specs.List.Sorted.{IsSorted};
+ghost use Rattle.chunk_mux.specs.Sections.{SplitInto, JoinSections, sections_of};
 ghost use Rattle.chunk_mux.specs.Tiles.{IsInStream, place_order, tiling_from, has_place};
 ghost use Rattle.chunk_mux.specs.declared.tiling.Placed.{Placed};
 ghost use Rattle.chunk_mux.specs.declared.tiling.Tiling.TheVariants.{Whole, Hole, Overlap};
@@ -104,4 +105,12 @@ pub fn an_overlap_is_the_first()
     ensures here { (chunks : List Placed) (at : ℕ) → IsSorted place_order chunks
         → All IsInStream chunks → tiling_from 0 chunks ≡ Overlap at
         → 2 ≤ count_by (has_place at) chunks }
+{}
+
+/// The sections of a copy split its chunks, in their order, into the longest runs that lie in one file of
+/// one volume. Those of a whole copy join from 0 to its length.
+pub fn sections_are_longest_runs()
+    ensures split { (run : List Placed) → SplitInto run (sections_of run) }
+    ensures joined { (run : List Placed) (size : ℕ) → All IsInStream run → tiling_from 0 run ≡ Whole size
+        → JoinSections 0 (sections_of run) size }
 {}
