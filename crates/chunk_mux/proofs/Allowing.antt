@@ -7,7 +7,7 @@ use Rattle.volume_block.specs.Chunks.{ChunkText, IsChunk, chunk_text, chunks_tex
 use Rattle.volume_block.specs.Valid.{AreChunks}
 use Rattle.volume_block.specs.Region.{AreBlocks}
 use Rattle.chunk_mux.specs.Packing.{room_behind, chunk_of, new_blocks, packed}
-use Rattle.chunk_mux.proofs.Buffers.{allowed-chunk_of}
+use Rattle.chunk_mux.proofs.Filling.{allowed-chunk_of}
 use Rattle.chunk_mux.proofs.Packing.{length-chunk_of}
 
 some-more : (last more : List ChunkText) → AreChunks last → AreChunks more → length (chunks_text last) + length (chunks_text more) ≤ 4040

@@ -1,9 +1,10 @@
 pub mod Allowing
-mod Buffers
+pub mod Filling
 pub mod Counting
 mod Faults
 mod Holding
 pub mod InOrder
+pub mod Members
 pub mod Joining
 pub mod Numbers
 pub mod Packing

@@ -169,6 +169,11 @@ packed_begun size (block ∷ next ∷ blocks) ssid copy offset count piece some 
 
 -- ---- the buffer's words
 
+pub pack_is : (blocks : List (List ChunkText)) (ssid copy offset : ℕ) (piece : List ℕ)
+    → pack blocks ssid copy offset piece ≡ packed 4040 blocks ssid copy offset piece
+unfolding pack
+pack_is blocks ssid copy offset piece = refl
+
 pub pack_none : (blocks : List (List ChunkText)) (ssid copy offset : ℕ) (piece : List ℕ) → length piece ≡ 0
     → pack blocks ssid copy offset piece ≡ blocks
 unfolding pack

@@ -1,9 +1,11 @@
+pub mod Blocks
 pub mod Buffer
 pub mod Lending
 pub mod Packing
 pub mod Sealing
 pub mod Sections
 pub mod Spans
+pub mod Ssids
 pub mod Text
 pub mod Pushes
 pub mod Tiles

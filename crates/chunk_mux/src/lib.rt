@@ -2,10 +2,12 @@
 //! make a whole stream. docs/formats.md has the bytes of a block.
 #![tactic(auto)]
 
+mod blocks;
 mod buffer;
 mod laws;
 mod sealing;
 mod span;
+mod ssids;
 mod tiling;
 
 pub use buffer::MuxBuffer;

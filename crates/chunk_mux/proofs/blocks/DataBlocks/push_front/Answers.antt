@@ -1,7 +1,7 @@
 use Rattle.std.proofs.Common.{◌≡◌, ◌≤◌, length, min, arith}
 use Rattle.chunk_mux.specs.Packing.{room_in}
 use Rattle.chunk_mux.proofs.Packing.{pack_added, pack_begun, fits_added}
-use Rattle.chunk_mux.proofs.buffer.MuxBuffer.push_front.Goals as goal
+use Rattle.chunk_mux.proofs.blocks.DataBlocks.push_front.Goals as goal
 
 pub returns-then-room-gt0-clause-room : goal.returns-then-room-gt0-clause-room
 returns-then-room-gt0-clause-room c =

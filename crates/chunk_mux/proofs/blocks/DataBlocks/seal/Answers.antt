@@ -1,6 +1,6 @@
 use Rattle.std.proofs.Common.{◌≡◌, ◌+◌, ℕ, List, length, take, drop, refl, sym, ap, ◌∙◌, arith, subst}
 use Rattle.std.proofs.lemmas.List.{length-take}
-use Rattle.chunk_mux.proofs.Buffers.{as_many, stands}
+use Rattle.chunk_mux.proofs.Filling.{as_many, stands}
 use Rattle.chunk_mux.proofs.Holding.{held_small, held_chunks}
 use Rattle.std.specs.List.{flat_map}
 use Rattle.std.specs.Vec.{with_items}
@@ -8,8 +8,8 @@ use Rattle.std.proofs.lemmas.List.{with_items_is}
 use Rattle.volume_block.specs.Chunks.{ChunkText}
 use Rattle.volume_block.specs.Region.{IsSealed}
 use Rattle.chunk_mux.specs.Text.{Hold}
-use Rattle.chunk_mux.specs.Buffer.{used_in, data_in}
-use Rattle.chunk_mux.proofs.buffer.MuxBuffer.seal.Goals as goal
+use Rattle.chunk_mux.specs.Blocks.{used_in, data_in}
+use Rattle.chunk_mux.proofs.blocks.DataBlocks.seal.Goals as goal
 
 pub make_region-requires-clause-count : goal.make_region-requires-clause-count
 make_region-requires-clause-count c =

@@ -1,8 +1,8 @@
 use Rattle.std.proofs.Common.{◌++◌, ◌+◌, length, arith}
 use Rattle.std.proofs.lemmas.List.{length-append}
 use Rattle.volume_block.specs.Chunks.{chunk_head}
-use Rattle.chunk_mux.proofs.Buffers.{grown}
-use Rattle.chunk_mux.proofs.buffer.put_chunk.Goals as goal
+use Rattle.chunk_mux.proofs.Filling.{grown}
+use Rattle.chunk_mux.proofs.blocks.put_chunk.Goals as goal
 
 pub returns : goal.returns
 returns c =

@@ -1,7 +1,7 @@
 use Rattle.std.proofs.Common.{◌≡◌, ◌+◌, ◌-◌, length, get_or, set, refl, arith}
 use Rattle.std.specs.Vec.{with_item}
-use Rattle.chunk_mux.proofs.Buffers.{has_last, chunk_added}
-use Rattle.chunk_mux.proofs.buffer.MuxBuffer.add_chunk.Goals as goal
+use Rattle.chunk_mux.proofs.Filling.{has_last, chunk_added}
+use Rattle.chunk_mux.proofs.blocks.DataBlocks.add_chunk.Goals as goal
 
 pub overflow_sub-last : goal.overflow_sub-last
 overflow_sub-last c = (has_last c.self.inside c.args.self.now c.self.view_is c.self.invariant (omega arith)).some

@@ -1,7 +1,7 @@
 use Rattle.std.proofs.Common.{◌+◌, length, set, refl, arith}
 use Rattle.std.specs.Vec.{with_item}
-use Rattle.chunk_mux.proofs.Buffers.{as_many, chunk_begun}
-use Rattle.chunk_mux.proofs.buffer.MuxBuffer.begin_block.Goals as goal
+use Rattle.chunk_mux.proofs.Filling.{as_many, chunk_begun}
+use Rattle.chunk_mux.proofs.blocks.DataBlocks.begin_block.Goals as goal
 
 pub bounds-self-inside-next : goal.bounds-self-inside-next
 bounds-self-inside-next c = omega (arith, as_many c.self.inside c.args.self.now c.self.view_is c.self.invariant)

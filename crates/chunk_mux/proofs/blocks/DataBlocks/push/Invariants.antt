@@ -1,6 +1,6 @@
 use Rattle.std.proofs.Common.{◌≡◌, ◌+◌, length}
 use Rattle.chunk_mux.specs.Packing.{pack, Fits}
-use Rattle.chunk_mux.proofs.buffer.MuxBuffer.push.Given as goal
+use Rattle.chunk_mux.proofs.blocks.DataBlocks.push.Given as goal
 
 abbrev pub invariant-loop-rest : goal.invariant-loop-rest
 invariant-loop-rest l = record {

@@ -1,4 +1,4 @@
--- A buffer's fields and the chunks that they hold.
+-- The fields of data blocks and the chunks that they hold.
 use Rattle.std.proofs.Common.{◌≡◌, ℕ, ◌+◌, ◌-◌, ◌^◌, ◌≤◌, ◌<◌, List, [], ◌∷◌, ◌++◌, length, take, drop, get_or, set, refl, sym, ap, subst, ◌∙◌, arith, append_assoc}
 use Rattle.std.proofs.lemmas.List.{append-nil, length-append, length-take, length-take-le, length-drop, length-set, take_more, take_more_set, take_at, drop-append-le, drop-take, drop-set-add, get_or-drop, get_or_read}
 use Rattle.std.proofs.lemmas.List.Elements.{All-from_recursion}
@@ -7,33 +7,33 @@ use Rattle.volume_block.specs.Chunks.{ChunkText, IsChunk, chunk_head, chunks_tex
 use Rattle.volume_block.specs.Valid.{AreChunks}
 use Rattle.volume_block.specs.Region.{AreBlocks}
 use Rattle.chunk_mux.specs.Text.{used_text, Hold}
-use Rattle.chunk_mux.specs.Buffer.{IsBuffer, view_of, used_in, data_in}
+use Rattle.chunk_mux.specs.Blocks.{AreFilled, view_of, used_in, data_in}
 use Rattle.chunk_mux.specs.Packing.{room_in, add_last, chunk_of}
-use Rattle.chunk_mux.specs.declared.buffer.MuxBuffer.TheInside.{Inside}
+use Rattle.chunk_mux.specs.declared.blocks.DataBlocks.TheInside.{Inside}
 use Rattle.chunk_mux.proofs.Holding.{held_chunks, length-held, held_allowed, held_room, hold_added, hold_begun}
 use Rattle.chunk_mux.proofs.Packing.{length-chunk_of}
 
--- the chunks that a buffer is seen as stand in its blocks
-pub stands : (inside : Inside) (value : List (List ChunkText)) → view_of inside ≡ value → IsBuffer inside → Hold value (used_in inside) (data_in inside)
+-- the chunks that data blocks are seen as stand in its blocks
+pub stands : (inside : Inside) (value : List (List ChunkText)) → view_of inside ≡ value → AreFilled inside → Hold value (used_in inside) (data_in inside)
 stands inside value is ok =
     let P : List (List ChunkText) → Type 0 = λ chunks. Hold chunks (used_in inside) (data_in inside) in
     subst P (sym (held_chunks ok.holds.0 (used_in inside) (data_in inside) ok.holds.1) ∙ is) ok.holds.1
 
-pub as_many : (inside : Inside) (value : List (List ChunkText)) → view_of inside ≡ value → IsBuffer inside → length value ≡ inside.begun
+pub as_many : (inside : Inside) (value : List (List ChunkText)) → view_of inside ≡ value → AreFilled inside → length value ≡ inside.begun
 as_many inside value is ok =
     length-held value (used_in inside) (data_in inside) (stands inside value is ok)
     ∙ length-take-le inside.begun inside.used (omega (arith, ok.places, ok.counted))
 
-pub all_allowed : (inside : Inside) (value : List (List ChunkText)) → view_of inside ≡ value → IsBuffer inside → AreBlocks value
+pub all_allowed : (inside : Inside) (value : List (List ChunkText)) → view_of inside ≡ value → AreFilled inside → AreBlocks value
 all_allowed inside value is ok = held_allowed value (used_in inside) (data_in inside) (stands inside value is ok)
 
 -- how much of the last block is used
-used_last : (inside : Inside) (last : ℕ) → IsBuffer inside → last + 1 ≡ inside.begun
+used_last : (inside : Inside) (last : ℕ) → AreFilled inside → last + 1 ≡ inside.begun
     → used_in inside ≡ take last inside.used ++ get_or inside.used last 0 ∷ []
 used_last inside last ok is =
     ap (λ (n : ℕ). take n inside.used) (sym is) ∙ take_more inside.used last 0 (omega (arith, ok.places, ok.counted))
 
-pub room_is : (inside : Inside) (value : List (List ChunkText)) (last : ℕ) → view_of inside ≡ value → IsBuffer inside → last + 1 ≡ inside.begun
+pub room_is : (inside : Inside) (value : List (List ChunkText)) (last : ℕ) → view_of inside ≡ value → AreFilled inside → last + 1 ≡ inside.begun
     → room_in 4040 value ≡ 4040 - get_or inside.used last 0 - 24
 room_is inside value last is ok at =
     let P : List ℕ → Type 0 = λ used. Hold value used (data_in inside) in
@@ -59,7 +59,7 @@ some_begun : (value : List (List ChunkText)) (n : ℕ) → 1 ≤ room_in 4040 va
 some_begun [] n room many = absurd (omega arith)
 some_begun (block ∷ more) n room many = omega arith
 
-pub has_last : (inside : Inside) (value : List (List ChunkText)) → view_of inside ≡ value → IsBuffer inside → 1 ≤ room_in 4040 value → HasLast inside value
+pub has_last : (inside : Inside) (value : List (List ChunkText)) → view_of inside ≡ value → AreFilled inside → 1 ≤ room_in 4040 value → HasLast inside value
 has_last inside value is ok room =
     let many : length value ≡ inside.begun = as_many inside value is ok in
     let some : 1 ≤ inside.begun = some_begun value inside.begun room many in
@@ -102,7 +102,7 @@ grown used count block text rest free whole low long is =
 
 -- the fields hold these chunks
 pub record Becomes (after : Inside) (value : List (List ChunkText)) : Type 0 where
-  pub ok : IsBuffer after
+  pub ok : AreFilled after
   pub view : view_of after ≡ value
 
 becomes : (after : Inside) (value : List (List ChunkText)) → length after.blocks.items ≡ 66 → length after.used ≡ 64 → after.begun ≤ 64
@@ -128,7 +128,7 @@ data_get inside i block low is =
     ∙ sym (get_or-drop 1 inside.blocks.items i [])
 
 pub chunk_added : (inside after : Inside) (value : List (List ChunkText)) (ssid copy offset last : ℕ) (piece block block' : List ℕ)
-    → view_of inside ≡ value → IsBuffer inside → last + 1 ≡ inside.begun
+    → view_of inside ≡ value → AreFilled inside → last + 1 ≡ inside.begun
     → 1 ≤ ssid → ssid < 2 ^ 64 → 1 ≤ copy → copy < 2 ^ 32 → offset + length piece ≤ 2 ^ 36 → 1 ≤ length piece → length piece ≤ room_in 4040 value
     → block ≡ get_or inside.blocks.items (last + 1) block
     → used_text (get_or inside.used last 0 + (24 + length piece)) block'
@@ -166,7 +166,7 @@ chunk_added inside after value ssid copy offset last piece block block' is ok at
     (subst (λ (d : List (List ℕ)). Hold (add_last value more) (front ++ used ∷ []) d) (sym data-now) now))
 
 pub chunk_begun : (inside after : Inside) (value : List (List ChunkText)) (ssid copy offset : ℕ) (piece block block' : List ℕ)
-    → view_of inside ≡ value → IsBuffer inside → inside.begun < 64
+    → view_of inside ≡ value → AreFilled inside → inside.begun < 64
     → 1 ≤ ssid → ssid < 2 ^ 64 → 1 ≤ copy → copy < 2 ^ 32 → offset + length piece ≤ 2 ^ 36 → 1 ≤ length piece → length piece ≤ 4016
     → used_text (0 + (24 + length piece)) block' ≡ used_text 0 block ++ (chunk_head ssid copy offset (length piece) ++ piece)
     → after.blocks.items ≡ set inside.blocks.items (inside.begun + 1) block'

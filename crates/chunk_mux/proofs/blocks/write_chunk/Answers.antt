@@ -1,7 +1,7 @@
 use Rattle.std.proofs.Common.{◌+◌, ◌-◌, List, ℕ, length, refl, ap, ◌∙◌}
 use Rattle.volume_block.specs.Chunks.{chunk_head}
 use Rattle.volume_block.proofs.Whole.{placed}
-use Rattle.chunk_mux.proofs.buffer.write_chunk.Goals as goal
+use Rattle.chunk_mux.proofs.blocks.write_chunk.Goals as goal
 use borrow.Rule.Slice.PartMut.{put_mid}
 
 pub returns : goal.returns

@@ -1,6 +1,6 @@
 use Rattle.std.proofs.Common.{◌-◌, ◌+◌, ◌≡◌, sym, ◌∙◌, arith}
-use Rattle.chunk_mux.proofs.Buffers.{as_many, no_room, room_is}
-use Rattle.chunk_mux.proofs.buffer.MuxBuffer.room.Goals as goal
+use Rattle.chunk_mux.proofs.Filling.{as_many, no_room, room_is}
+use Rattle.chunk_mux.proofs.blocks.DataBlocks.room.Goals as goal
 
 pub returns-then-self-eq0 : goal.returns-then-self-eq0
 returns-then-self-eq0 c =
