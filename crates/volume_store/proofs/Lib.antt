@@ -6,4 +6,6 @@ pub mod Finding
 pub mod Labelling
 pub mod OneContents
 pub mod Regions
+pub mod StandingCommit
+pub mod StandingFiles
 pub mod Walking
