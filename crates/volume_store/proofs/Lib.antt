@@ -8,4 +8,5 @@ pub mod OneContents
 pub mod Regions
 pub mod StandingCommit
 pub mod StandingFiles
+pub mod StandingPlaces
 pub mod Walking

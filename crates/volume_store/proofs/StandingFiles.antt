@@ -34,7 +34,7 @@ mark_inside bytes volid mark count valid =
 same_count : (one other : ℕ) → kinds.Mark one ≡ kinds.Mark other → one ≡ other
 same_count one other same = cc same
 
-one_mark : (block : List ℕ) (volid mark one other : ℕ) → ValidBlock block volid mark (kinds.Mark one)
+pub one_mark : (block : List ℕ) (volid mark one other : ℕ) → ValidBlock block volid mark (kinds.Mark one)
     → ValidBlock block volid mark (kinds.Mark other) → one ≡ other
 one_mark block volid mark one other valid others =
     same_count one other (one_block block volid mark volid mark (kinds.Mark one) (kinds.Mark other) valid others).2

@@ -24,3 +24,9 @@ pub fn a_file_adds_its_chunks()
         (one : Standing) → Committed old (Labelled label files (Closed mark)) → Committed new (with_file label files mark blocks)
         → StandsIn new one ↔ (StandsIn old one ⊎ InBlocks label.volid.0 mark blocks one) }
 {}
+
+/// One chunk stands in one place of a cartridge, which a block and a byte in it are.
+pub fn one_chunk_stands_in_a_place()
+    ensures { (bytes : List ℕ) (one other : Standing) → StandsIn bytes one → StandsIn bytes other → one.block ≡ other.block
+        → one.start ≡ other.start → one ≡ other }
+{}
