@@ -8,6 +8,7 @@ pub mod Members
 pub mod Joining
 pub mod Numbers
 pub mod Packing
+pub mod Placing
 mod Reading
 mod SealedBlocks
 pub mod Sections

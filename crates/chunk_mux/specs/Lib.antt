@@ -2,6 +2,7 @@ pub mod Blocks
 pub mod Buffer
 pub mod Lending
 pub mod Packing
+pub mod Placing
 pub mod Sealing
 pub mod Sections
 pub mod Spans

@@ -1,12 +1,14 @@
 //! Laws of packing and of tiling: each function has an empty body, and its contract is the law.
 
-ghost use Rattle.std.specs.Prelude.{◌≡◌, ◌+◌, ◌≤◌, ◌<◌, ◌^◌, ◌==◌, ◌||◌, ◌↔◌, ◌++◌, ℕ, List, [], length, take, get_or, count_by, All};
+ghost use Rattle.std.specs.Prelude.{◌≡◌, ◌+◌, ◌≤◌, ◌<◌, ◌^◌, ◌==◌, ◌||◌, ◌↔◌, ◌⊎◌, ◌++◌, ℕ, List, [], length, take, get_or, count_by, All};
 ghost use Rattle.std.specs.Int.{div_ceil};
-ghost use Rattle.volume_block.specs.Chunks.{ChunkText, all_chunks, JoinFrom};
+ghost use Rattle.volume_block.specs.Chunks.{ChunkText, all_chunks, JoinFrom, joined};
+ghost use Rattle.volume_block.specs.Standing.{Standing, InBlocks, chunks_of};
 ghost use Rattle.volume_block.specs.Region.{AreBlocks};
 ghost use Rattle.chunk_mux.specs.Packing.{payload_size, chunk_size, pack, packed, room_in, first_in, fits_in, fits_behind, Fits};
 ghost use Rattle.chunk_mux.specs.Pushes.{Push, AddsChunks, pushed, bytes_of, pieces_of, has_set};
-ghost use Rattle.chunk_mux.specs.Spans.{HasOneMore, begun_by, room_after};
+ghost use Rattle.chunk_mux.specs.Spans.{IsPartOf, HasOneMore, begun_by, room_after};
+ghost use Rattle.chunk_mux.specs.Placing.{AreOfCopy, places_of};
 ghost use Rattle.std.specs.List.Sorted.{IsSorted};
 ghost use Rattle.chunk_mux.specs.Sections.{SplitInto, JoinSections, sections_of};
 ghost use Rattle.chunk_mux.specs.Tiles.{IsInStream, place_order, tiling_from, has_place};
@@ -74,6 +76,31 @@ pub fn pushed_blocks_are_allowed()
     ensures { (blocks : List (List ChunkText)) (ssid copy offset : ℕ) (piece : List ℕ)
         → (1 ≤ ssid) × (ssid < 2 ^ 64) → (1 ≤ copy) × (copy < 2 ^ 32) → offset + length piece ≤ 2 ^ 36
         → AreBlocks blocks → AreBlocks (packed payload_size blocks ssid copy offset piece) }
+{}
+
+/// A push leaves each chunk where it stands in the file that the blocks will be. The chunks that stand there
+/// after it stood there before, or are parts of the piece.
+pub fn a_push_adds_its_chunks()
+    ensures kept { (size volid mark : ℕ) (blocks : List (List ChunkText)) (ssid copy offset : ℕ)
+        (piece : List ℕ) (one : Standing) → 25 ≤ size → InBlocks volid mark blocks one
+        → InBlocks volid mark (packed size blocks ssid copy offset piece) one }
+    ensures added { (size volid mark : ℕ) (blocks : List (List ChunkText)) (ssid copy offset : ℕ)
+        (piece : List ℕ) (one : Standing) → 25 ≤ size
+        → InBlocks volid mark (packed size blocks ssid copy offset piece) one
+        → InBlocks volid mark blocks one ⊎ IsPartOf ssid copy offset piece one.chunk }
+{}
+
+/// The chunks of one copy that are found to be whole join from 0 on, and have as many bytes as that. Those
+/// that join are found whole.
+pub fn whole_chunks_join()
+    ensures joined { (run : List Standing) (ssid copy size : ℕ) → AreOfCopy ssid copy run
+        → tiling_from 0 (places_of run) ≡ Whole size
+        → JoinFrom ssid copy 0 (chunks_of run) (joined (chunks_of run)) }
+    ensures size { (run : List Standing) (ssid copy size : ℕ) → AreOfCopy ssid copy run
+        → tiling_from 0 (places_of run) ≡ Whole size → length (joined (chunks_of run)) ≡ size }
+    ensures whole { (run : List Standing) (ssid copy : ℕ) (bytes : List ℕ)
+        → JoinFrom ssid copy 0 (chunks_of run) bytes
+        → tiling_from 0 (places_of run) ≡ Whole (length bytes) }
 {}
 
 /// Of chunks that are whole each place below the length is in exactly one, and no other is in any.

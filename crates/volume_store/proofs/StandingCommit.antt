@@ -4,10 +4,10 @@ use Rattle.std.specs.List.{Contains}
 use Rattle.std.specs.Prelude.{◌↔◌}
 use Rattle.std.proofs.lemmas.List.Elements.{Contains-append_cases, Contains-append_left, Contains-push}
 use Rattle.volume_block.specs.Chunks.{ChunkText}
-use Rattle.volume_block.specs.Standing.{Standing}
+use Rattle.volume_block.specs.Standing.{Standing, InBlocks}
 use Rattle.volume_block.specs.declared.label.Label.{Label}
 use Rattle.volume_store.specs.Committed.{DataPlace, Whole, CommittedFile, Closed, Labelled, Committed}
-use Rattle.volume_store.specs.Standing.{StandsIn, InFiles, InBlocks}
+use Rattle.volume_store.specs.Standing.{StandsIn, InFiles}
 use Rattle.volume_store.specs.Writes.{added_file, with_file}
 use Rattle.volume_store.proofs.StandingFiles.{stand_in_files}
 

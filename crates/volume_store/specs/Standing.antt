@@ -46,15 +46,3 @@ pub record InFiles (volid : ℕ) (files : List CommittedFile) (one : Standing) :
   pub places : file.places ≡ earlier ++ Whole (before ++ one.chunk ∷ after) ∷ later
   pub block : one.block ≡ file.mark + 1 + length earlier
   pub start : one.start ≡ start_behind before
-
--- the chunk is one of the file that a commit of these blocks at this mark place adds to a volume
-pub record InBlocks (volid mark : ℕ) (blocks : List (List ChunkText)) (one : Standing) : Type 0 where
-  pub volume : one.volid ≡ volid
-  pub at : one.mark ≡ mark
-  pub earlier : List (List ChunkText)
-  pub before : List ChunkText
-  pub after : List ChunkText
-  pub later : List (List ChunkText)
-  pub parts : blocks ≡ earlier ++ (before ++ one.chunk ∷ after) ∷ later
-  pub block : one.block ≡ mark + 1 + length earlier
-  pub start : one.start ≡ start_behind before

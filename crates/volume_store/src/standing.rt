@@ -3,10 +3,10 @@
 
 ghost use Rattle.std.specs.Prelude.{◌≡◌, ◌↔◌, ◌⊎◌, ℕ, List};
 ghost use Rattle.volume_block.specs.Chunks.{ChunkText};
-ghost use Rattle.volume_block.specs.Standing.{Standing};
+ghost use Rattle.volume_block.specs.Standing.{Standing, InBlocks};
 ghost use Rattle.volume_block.specs.declared.label.Label.{Label};
 ghost use Rattle.volume_store.specs.Committed.{CommittedFile, End, Closed, Unlabelled, BadLabel, Labelled, Committed};
-ghost use Rattle.volume_store.specs.Standing.{StandsIn, InFiles, InBlocks};
+ghost use Rattle.volume_store.specs.Standing.{StandsIn, InFiles};
 ghost use Rattle.volume_store.specs.Writes.{with_file};
 
 /// The chunks that stand on a cartridge are those of its committed files. On one without a valid label none
