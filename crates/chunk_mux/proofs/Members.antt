@@ -78,7 +78,7 @@ has_known number x xs known = elim (cases_order x number) [
       let here : has_number number xs ≡ true = subst (λ (n : ℕ). has_number n xs ≡ true) same known in
       here ∙ ap (λ (b : Bool). b || (x == number)) (sym here)
   | inr other ↦
-      let none : (x == number) ≡ false = ne_eqb x number (λ same. elim other [ | inl less ↦ omega arith | inr more ↦ omega arith ]) in
+      let none : (x == number) ≡ false = ne_eqb x number (λ same. elim other [ inl less ↦ omega arith | inr more ↦ omega arith ]) in
       sym (ap (λ (b : Bool). has_number number xs || b) none ∙ or-false (has_number number xs))
 ]
   where
@@ -122,13 +122,13 @@ ascend_inserted xs i x up low before behind a b less far =
       | inl same ↦ omega (arith, two.at same, one.below (omega (arith, same)), before a (omega (arith, same)))
       | inr (inl under) ↦ omega (arith, two.below under, one.below (omega (arith, under)), up a b less (omega (arith, under)))
       | inr (inr over) ↦ elim (cases_order a i) [
-          | inl same ↦ omega (arith, one.at same, two.above over, behind (b - 1) (omega arith) (omega (arith, long)))
-          | inr (inl under) ↦ elim (cases_lt a (b - 1)) [
-              | inl apart ↦ omega (arith, one.below under, two.above over, up a (b - 1) apart (omega (arith, long)))
-              | inr near ↦ absurd (omega (arith, under, over, near, less))
-            ]
-          | inr (inr above) ↦ omega (arith, one.above above, two.above over, up (a - 1) (b - 1) (omega arith) (omega (arith, long)))
+        | inl same ↦ omega (arith, one.at same, two.above over, behind (b - 1) (omega arith) (omega (arith, long)))
+        | inr (inl under) ↦ elim (cases_lt a (b - 1)) [
+          | inl apart ↦ omega (arith, one.below under, two.above over, up a (b - 1) apart (omega (arith, long)))
+          | inr near ↦ absurd (omega (arith, under, over, near, less))
         ]
+        | inr (inr above) ↦ omega (arith, one.above above, two.above over, up (a - 1) (b - 1) (omega arith) (omega (arith, long)))
+      ]
     ]
 
 -- ---- how many chunks there may be
@@ -141,8 +141,13 @@ chunks_long (chunk ∷ chunks) each =
 pub few_chunks : (blocks : List (List ChunkText)) → AreBlocks blocks → length (all_chunks blocks) ≤ 161 * length blocks
 few_chunks [] are = omega arith
 few_chunks (chunks ∷ blocks) are =
-    omega (arith, length-append chunks (all_chunks blocks), chunks_long chunks (recursion_from_All IsChunk chunks are.0.each), are.0.fit,
-    few_chunks blocks are.1)
+    omega (
+      arith,
+      length-append chunks (all_chunks blocks),
+      chunks_long chunks (recursion_from_All IsChunk chunks are.0.each),
+      are.0.fit,
+      few_chunks blocks are.1,
+    )
 
 -- a piece that has bytes adds a chunk
 pub more_chunks : (size : ℕ) (blocks : List (List ChunkText)) (ssid copy offset : ℕ) (piece : List ℕ) → 1 ≤ chunk_size size → 1 ≤ length piece

@@ -139,6 +139,7 @@ room-full size (last ∷ []) ssid copy offset piece some has =
     behind : (most room count : ℕ) → room ≤ count
         → most * div_ceil (count - room) most - (count - room) - 24 ≡ room + most * div_ceil (count - room) most - count - 24
     behind most room count far = omega arith
+
     within : (most room count text : ℕ) → 1 ≤ most → count ≤ room → text ≡ 24 + count
         → room - text ≡ room + most * div_ceil (count - room) most - count - 24
     within most room count text some low is =
@@ -167,7 +168,7 @@ pub fits-packed : (size most : ℕ) (blocks : List (List ChunkText)) (ssid copy 
 fits-packed size most blocks ssid copy offset piece some few =
     let long = length-packed size blocks ssid copy offset piece some in (
       (λ fits.
-      omega (arith, long, fits_ceil (length piece - room_in size blocks) (chunk_size size) (most - length blocks) some (omega (arith, fits)), few)),
+          omega (arith, long, fits_ceil (length piece - room_in size blocks) (chunk_size size) (most - length blocks) some (omega (arith, fits)), few)),
       (λ whole.
-      omega (arith, ceil_fits (length piece - room_in size blocks) (chunk_size size) (most - length blocks) some (omega (arith, long, whole, few)))),
+          omega (arith, ceil_fits (length piece - room_in size blocks) (chunk_size size) (most - length blocks) some (omega (arith, long, whole, few)))),
     )

@@ -8,8 +8,10 @@ use Rattle.chunk_mux.specs.contracts.buffer.MuxBuffer.{the_row as buffer_row}
 
 -- the blocks are as before
 abbrev pub BlocksStay : MutBor (List (List ChunkText)) → Fml
-BlocksStay blocks = follows_so blocks_row blocks_row blocks.ghost_name none (λ _ _. ⊤) (λ after. after ≡ blocks.now)
+BlocksStay blocks =
+    follows_so blocks_row blocks_row blocks.ghost_name none (λ _ _. ⊤) (λ after. after ≡ blocks.now)
 
 -- the buffer is as before
 abbrev pub StaysAsItWas : MutBor (List (List ChunkText)) → Fml
-StaysAsItWas buffer = follows_so buffer_row buffer_row buffer.ghost_name none (λ _ _. ⊤) (λ after. after ≡ buffer.now)
+StaysAsItWas buffer =
+    follows_so buffer_row buffer_row buffer.ghost_name none (λ _ _. ⊤) (λ after. after ≡ buffer.now)

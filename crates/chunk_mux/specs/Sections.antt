@@ -1,11 +1,12 @@
--- The sections of a copy: the longest runs of its chunks, in order of offset, that lie in one committed file
--- of one volume.
-use Rattle.std.specs.Prelude.{◌≡◌, ◌≢◌, ◌⊎◌, ℕ, ◌+◌, ◌≤◌, ◌<◌, List, [], ◌∷◌, ◌++◌, Bool, ◌==◌, ◌&&◌, if◌then◌else◌, min, max}
+-- The sections of a copy: the longest runs of its chunks, in order of offset, that lie in one
+-- committed file of one volume.
+use Rattle.std.specs.Prelude.{◌≡◌, ◌≢◌, ◌⊎◌, ℕ, ◌+◌, ◌≤◌, ◌<◌, List, [], ◌∷◌, ◌++◌, Bool, ◌==◌}
+use Rattle.std.specs.Prelude.{◌&&◌, if◌then◌else◌, min, max}
 use Rattle.std.specs.List.{AllByRecursion, AllZip, Contains, flat_map, fold}
 use Rattle.chunk_mux.specs.declared.tiling.Placed.{Placed}
 
--- A run of chunks in the file of a volume that has its mark at `mark`: the first and the last data block that
--- hold bytes of the run, and the offsets of its first byte and behind its last.
+-- A run of chunks in the file of a volume that has its mark at `mark`: the first and the last data
+-- block that hold bytes of the run, and the offsets of its first byte and behind its last.
 pub record SectionText : Type 0 where
   pub volid : ℕ
   pub mark : ℕ
@@ -51,11 +52,14 @@ sections_of run = fold add_section [] run
 
 -- the section of chunks that follow each other in one file
 pub record IsSectionOf (run : List Placed) (section : SectionText) : Type 0 where
-  pub in_file : AllByRecursion (λ (chunk : Placed). (chunk.volid.0 ≡ section.volid) × (chunk.mark ≡ section.mark)) run
-  pub within : AllByRecursion (λ (chunk : Placed). (section.first ≤ chunk.block) × (chunk.block ≤ section.last)) run
+  pub in_file : AllByRecursion
+      (λ (chunk : Placed). (chunk.volid.0 ≡ section.volid) × (chunk.mark ≡ section.mark)) run
+  pub within : AllByRecursion
+      (λ (chunk : Placed). (section.first ≤ chunk.block) × (chunk.block ≤ section.last)) run
   pub first : (chunk : Placed) × Contains run chunk × (chunk.block ≡ section.first)
   pub last : (chunk : Placed) × Contains run chunk × (chunk.block ≡ section.last)
-  pub from : (chunk : Placed) × (behind : List Placed) × (run ≡ chunk ∷ behind) × (section.from ≡ chunk.offset)
+  pub from : (chunk : Placed) × (behind : List Placed) × (run ≡ chunk ∷ behind)
+      × (section.from ≡ chunk.offset)
   pub to : (chunk : Placed) × (before : List Placed) × (run ≡ before ++ chunk ∷ [])
       × (section.to ≡ chunk.offset + chunk.length)
 

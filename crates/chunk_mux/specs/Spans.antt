@@ -1,5 +1,6 @@
 -- What a push does to each block, and to the numbers of blocks and of bytes that have room.
-use Rattle.std.specs.Prelude.{◌≡◌, ℕ, ◌+◌, ◌-◌, ◌*◌, ◌≤◌, List, [], ◌∷◌, ◌++◌, length, take, drop, ◌==◌, if◌then◌else◌}
+use Rattle.std.specs.Prelude.{◌≡◌, ℕ, ◌+◌, ◌-◌, ◌*◌, ◌≤◌, List, [], ◌∷◌, ◌++◌, length, take, drop}
+use Rattle.std.specs.Prelude.{◌==◌, if◌then◌else◌}
 use Rattle.std.specs.Int.{div_ceil}
 use Rattle.volume_block.specs.Chunks.{ChunkText}
 use Rattle.chunk_mux.specs.Packing.{chunk_size}
@@ -19,7 +20,8 @@ pub record IsPartOf (ssid copy offset : ℕ) (piece : List ℕ) (chunk : ChunkTe
   pub slice : IsSlice piece (chunk.offset - offset) chunk.bytes
 
 -- the block has the chunks that it had and one more, which is a part of the piece
-pub record HasOneMore (ssid copy offset : ℕ) (piece : List ℕ) (old new : List ChunkText) : Type 0 where
+pub record HasOneMore (ssid copy offset : ℕ) (piece : List ℕ) (old new : List ChunkText) :
+    Type 0 where
   pub chunk : ChunkText
   pub part : IsPartOf ssid copy offset piece chunk
   pub behind : new ≡ old ++ chunk ∷ []

@@ -1,5 +1,6 @@
 -- Whether chunks make a whole stream.
-use Rattle.std.specs.Prelude.{◌≡◌, ◌≢◌, ℕ, ◌+◌, ◌≤◌, ◌<◌, ◌^◌, Bool, ◌&&◌, nat_lt, nat_le, List, [], ◌∷◌, length, get_or, if◌then◌else◌}
+use Rattle.std.specs.Prelude.{◌≡◌, ◌≢◌, ℕ, ◌+◌, ◌≤◌, ◌<◌, ◌^◌, Bool, ◌&&◌, nat_lt, nat_le, List, []}
+use Rattle.std.specs.Prelude.{◌∷◌, length, get_or, if◌then◌else◌}
 use Rattle.std.specs.Ordering.{nat_cmp, ordering_then}
 use Rattle.std.specs.declared.cmp.Ordering.{Ordering}
 use Rattle.std.specs.declared.cmp.Ordering.TheVariants.{Less}
@@ -14,8 +15,9 @@ IsInStream chunk = (1 ≤ chunk.length) × (chunk.offset + chunk.length ≤ 2 ^ 
 -- by offset, volid, block and start
 abbrev pub place_order : Placed → Placed → Ordering
 place_order one other =
-    ordering_then (ordering_then (ordering_then (nat_cmp one.offset other.offset) (nat_cmp one.volid.0 other.volid.0))
-    (nat_cmp one.block other.block)) (nat_cmp one.start other.start)
+    ordering_then (ordering_then (ordering_then (nat_cmp one.offset other.offset)
+    (nat_cmp one.volid.0 other.volid.0)) (nat_cmp one.block other.block))
+    (nat_cmp one.start other.start)
 
 -- the chunks stand in one place
 abbrev pub IsSamePlace : Placed → Placed → Type 0
@@ -32,14 +34,15 @@ abbrev pub AreInOrder : List Placed → Type 0
 AreInOrder chunks = (i j : ℕ) (none : Placed) → i < j → j < length chunks
     → place_order (get_or chunks i none) (get_or chunks j none) ≡ Less
 
--- What a walk over chunks finds that has reached this place: the place, where the next chunk is above it;
--- the offset of the next chunk, where it is below; else, once all have followed each other, the place behind
--- the last.
+-- What a walk over chunks finds that has reached this place: the place, where the next chunk is
+-- above it; the offset of the next chunk, where it is below; else, once all have followed each
+-- other, the place behind the last.
 abbrev pub tiling_from : ℕ → List Placed → Tiling
 tiling_from place [] = Whole place
 tiling_from place (chunk ∷ more) =
     if nat_lt place chunk.offset then Hole place
-    else (if nat_lt chunk.offset place then Overlap chunk.offset else tiling_from (place + chunk.length) more)
+    else (if nat_lt chunk.offset place then Overlap chunk.offset
+    else tiling_from (place + chunk.length) more)
 
 -- the chunk has the byte at this place of the stream
 abbrev pub has_place : ℕ → Placed → Bool

@@ -1,10 +1,12 @@
 //! A file's blocks in memory, which chunks are put into.
 
-ghost use Rattle.std.specs.Prelude.{◌≡◌, ◌+◌, ◌-◌, ◌*◌, ◌≤◌, ◌<◌, ◌^◌, ◌++◌, ◌∷◌, ◌↔◌, [], List, length, drop, IfOk, IsTrue};
+ghost use Rattle.std.specs.Prelude.{◌≡◌, ◌+◌, ◌-◌, ◌*◌, ◌≤◌, ◌<◌, ◌^◌, ◌++◌, ◌∷◌, ◌↔◌, [], List};
+ghost use Rattle.std.specs.Prelude.{length, drop, IfOk, IsTrue};
 ghost use Rattle.volume_block.specs.Chunks.{ChunkText, chunk_head};
 ghost use Rattle.volume_block.specs.Region.{AreBlocks, IsSealed};
 ghost use Rattle.chunk_mux.specs.Text.{used_text};
-ghost use Rattle.chunk_mux.specs.Packing.{Fits, pack, first_used, room_in, payload_size, chunk_size, chunk_of, add_last};
+ghost use Rattle.chunk_mux.specs.Packing.{Fits, pack, first_used, room_in, payload_size};
+ghost use Rattle.chunk_mux.specs.Packing.{chunk_size, chunk_of, add_last};
 
 use crate::Span;
 use crate::sealing::make_region;

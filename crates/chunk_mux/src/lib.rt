@@ -12,8 +12,8 @@ mod tiling;
 
 pub use buffer::MuxBuffer;
 pub use laws::{
-    a_hole_is_the_first, a_push_adds_its_chunks, a_push_fills_its_span, all_pushes_are_kept, an_overlap_is_the_first,
-    one_push_is_kept, pushed_blocks_are_allowed, pushes_are_counted,
+    a_hole_is_the_first, a_push_adds_its_chunks, a_push_fills_its_span, all_pushes_are_kept,
+    an_overlap_is_the_first, one_push_is_kept, pushed_blocks_are_allowed, pushes_are_counted,
     sections_are_longest_runs, whole_chunks_join, whole_covers_once,
 };
 pub use span::Span;

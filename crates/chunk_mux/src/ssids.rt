@@ -9,8 +9,8 @@ use std::marker::Model;
 use volume_block::{CHUNK_HEAD_SIZE, MAX_FILE_BLOCKS, PAYLOAD_SIZE};
 
 /// The most chunks of a file's data blocks: each takes a byte more than its head at least.
-pub(crate) const MOST_CHUNKS: usize =
-    MAX_FILE_BLOCKS as usize * (PAYLOAD_SIZE / (CHUNK_HEAD_SIZE + 1));
+pub(crate) const MOST_CHUNKS: usize = MAX_FILE_BLOCKS as usize
+    * (PAYLOAD_SIZE / (CHUNK_HEAD_SIZE + 1));
 
 /// Save sets, each once. There is room for as many as a file can have chunks.
 #[derive(Drop)]

@@ -2,7 +2,8 @@
 
 ghost use Rattle.std.specs.Prelude.{◌≡◌, ◌+◌, ◌<◌, All, length};
 ghost use Rattle.std.specs.List.Sorted.{IsPermutation, IsSorted};
-ghost use Rattle.chunk_mux.specs.Tiles.{IsInStream, StandApart, AreInOrder, place_order, tiling_from};
+ghost use Rattle.chunk_mux.specs.Tiles.{IsInStream, StandApart, AreInOrder, place_order};
+ghost use Rattle.chunk_mux.specs.Tiles.{tiling_from};
 
 use room_base::Volid;
 

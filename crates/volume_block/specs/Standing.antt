@@ -2,8 +2,8 @@
 use Rattle.std.specs.Prelude.{◌≡◌, ℕ, ◌+◌, List, ◌∷◌, ◌++◌, length, map}
 use Rattle.volume_block.specs.Chunks.{ChunkText, chunks_text}
 
--- A chunk in a block of the file of a volume that has its mark at `mark`. Its bytes are in the block from
--- the byte `start` on.
+-- A chunk in a block of the file of a volume that has its mark at `mark`. Its bytes are in the
+-- block from the byte `start` on.
 pub record Standing : Type 0 where
   pub volid : ℕ
   pub mark : ℕ
@@ -19,7 +19,8 @@ abbrev pub start_behind : List ChunkText → ℕ
 start_behind before = 80 + length (chunks_text before)
 
 -- The chunk is one of the file that a commit of these blocks at this mark place adds to a volume.
-pub record InBlocks (volid mark : ℕ) (blocks : List (List ChunkText)) (one : Standing) : Type 0 where
+pub record InBlocks (volid mark : ℕ) (blocks : List (List ChunkText)) (one : Standing) :
+    Type 0 where
   pub volume : one.volid ≡ volid
   pub at : one.mark ≡ mark
   pub earlier : List (List ChunkText)

@@ -23,6 +23,6 @@ pub fn one_list_of_chunks()
 /// Chunks that join to bytes have these bytes, in their order.
 #[tactic(auto, using(crate::proofs::Appending::joined_bytes))]
 pub fn joined_chunks()
-    ensures { (ssid copy offset : ℕ) (chunks : List ChunkText) (bytes : List ℕ) → JoinFrom ssid copy offset chunks bytes
-        → joined chunks ≡ bytes }
+    ensures { (ssid copy offset : ℕ) (chunks : List ChunkText) (bytes : List ℕ)
+        → JoinFrom ssid copy offset chunks bytes → joined chunks ≡ bytes }
 {}

@@ -194,11 +194,11 @@ pub stand_in_files : (bytes : List ℕ) (label : Label) (files : List CommittedF
     → Committed bytes (Labelled label files end) → StandsIn bytes one ↔ InFiles label.volid.0 files one
 stand_in_files bytes label files end one held = (
   (λ stands.
-  let volid = one-volume bytes label one held.0 stands in
-  subst (λ (n : ℕ). InFiles n files one) volid
-  (stands-in-files bytes one files end (from-one bytes one.volid label.volid.0 files end volid held.1) stands)),
+      let volid = one-volume bytes label one held.0 stands in
+      subst (λ (n : ℕ). InFiles n files one) volid
+      (stands-in-files bytes one files end (from-one bytes one.volid label.volid.0 files end volid held.1) stands)),
   (λ inside.
-  files-stand bytes label one files end held.0 (from-one bytes one.volid label.volid.0 files end inside.volume held.1) inside),
+      files-stand bytes label one files end held.0 (from-one bytes one.volid label.volid.0 files end inside.volume held.1) inside),
 )
 
 label_opens : (bytes : List ℕ) (label : Label) → HasLabel bytes label → slice_index bytes 0 ≡ 0x4C

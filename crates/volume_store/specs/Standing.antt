@@ -14,10 +14,11 @@ use Rattle.volume_store.specs.Committed.{block_at, HasLabel, DataPlace, Whole, C
 pub data IsReached (bytes : List ℕ) (volid : ℕ) : ℕ → Type 0 where
   first : IsReached bytes volid 1
   next : (mark count : ℕ) → IsReached bytes volid mark
-      → ValidBlock (block_at bytes mark) volid mark (kinds.Mark count) → IsReached bytes volid (mark + count + 1)
+      → ValidBlock (block_at bytes mark) volid mark (kinds.Mark count)
+      → IsReached bytes volid (mark + count + 1)
 
--- The chunk stands on a cartridge with these bytes: in a data block of a committed file of the volume that the
--- cartridge has the label of.
+-- The chunk stands on a cartridge with these bytes: in a data block of a committed file of the
+-- volume that the cartridge has the label of.
 pub record StandsIn (bytes : List ℕ) (one : Standing) : Type 0 where
   pub label : Label
   pub labelled : HasLabel bytes label
@@ -28,7 +29,8 @@ pub record StandsIn (bytes : List ℕ) (one : Standing) : Type 0 where
   pub within : (one.mark < one.block) × (one.block ≤ one.mark + count)
   pub before : List ChunkText
   pub after : List ChunkText
-  pub holds : HoldsChunks (block_at bytes one.block) one.volid one.block (before ++ one.chunk ∷ after)
+  pub holds : HoldsChunks (block_at bytes one.block) one.volid one.block
+      (before ++ one.chunk ∷ after)
   pub start : one.start ≡ start_behind before
 
 -- ---- by the files
