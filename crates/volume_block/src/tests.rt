@@ -177,7 +177,7 @@ fn chunks(rt: HostRuntime) {
     };
     assert_eq!(rt; two_chunks(&block), (Some(first), None));
     let bytes = bytes_in(&block, rt.alloc());
-    assert!(rt; bytes.is_some_and(|bytes| bytes.as_slice() == b"abc"));
+    assert!(rt; bytes.is_some_and(|bytes| bytes.as_slice() == b"abc".as_slice()));
 }
 
 // What may be named where one bit of this byte of `abc`'s data block is another: `F` for `D` is another
