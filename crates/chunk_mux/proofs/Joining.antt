@@ -1,15 +1,16 @@
 -- The chunks of a push join to its piece.
-use Rattle.std.proofs.Common.{◌≡◌, ℕ, zero, suc, ◌+◌, ◌*◌, ◌≤◌, ◌<◌, List, [], ◌∷◌, ◌++◌, length, take, drop, Bool, true, false, cond, ◌&&◌, ◌==◌, refl, sym, ap, subst, ◌∙◌, arith, append_assoc, inl, inr}
+use Rattle.std.proofs.Common.{◌≡◌, ℕ, zero, suc, ◌+◌, ◌*◌, ◌≤◌, ◌<◌, List, [], ◌∷◌, ◌++◌, length, take, drop, Bool, true, false, cond, ◌&&◌, ◌||◌, ◌==◌, refl, sym, ap, subst, ◌∙◌, arith, append_assoc, inl, inr}
 use Rattle.std.proofs.lemmas.Bool.{cases_lt}
 use Rattle.std.proofs.lemmas.List.{append-nil, length-take-le, length-drop, nil_from_length, take-append-drop}
 use Rattle.std.proofs.lemmas.List.Concat.{flat_map-append}
-use Rattle.std.proofs.lemmas.List.Elements.{filter-append}
-use Rattle.std.specs.Int.{div_ceil}
+use Rattle.std.proofs.lemmas.List.Elements.{filter-append, All-from_recursion}
 use Rattle.std.specs.List.{flat_map, filter}
 use Rattle.volume_block.specs.Chunks.{ChunkText, all_chunks, JoinFrom}
-use Rattle.chunk_mux.specs.Packing.{chunk_size, room_behind, chunk_of, new_blocks, packed, pack, fits_in}
-use Rattle.chunk_mux.specs.Pushes.{Push, pushed, AddsChunks, bytes_of, pieces_of}
+use Rattle.chunk_mux.specs.Packing.{chunk_size, room_behind, chunk_of, new_blocks, packed, fits_in}
+use Rattle.chunk_mux.specs.Pushes.{Push, pushed, AddsChunks, bytes_of, pieces_of, has_set}
+use Rattle.chunk_mux.specs.Spans.{IsPartOf}
 use Rattle.chunk_mux.proofs.Packing.{new_blocks_none}
+use Rattle.chunk_mux.proofs.Spans.{joined_parts, have-append, have-chunk_of, have-new}
 
 -- an empty buffer has room for 64 blocks of one chunk each
 pub fits_empty : fits_in [] ≡ 257024
@@ -55,35 +56,11 @@ joins_new (suc most) (suc more) ssid copy offset (byte ∷ bytes) some enough =
     (joins_new (suc most) more ssid copy (offset + suc most) (drop most bytes) some (omega (arith, length-drop most bytes)))
     (λ less. all_none (suc most) more ssid copy (offset + suc most) (drop most bytes) (omega (arith, length-drop most bytes)))
 
--- how many new blocks there are, of 4,016 bytes each
-pub record IsLeast (count size : ℕ) : Type 0 where
-  pub enough : size ≤ 4016 * count
-  pub no_more : 4016 * count < size + 4016
+-- ---- one push
 
-least_new : (most more ssid copy offset : ℕ) (bytes : List ℕ) → most ≡ 4016 → length bytes ≤ more
-    → IsLeast (length (new_blocks most more ssid copy offset bytes)) (length bytes)
-least_new most zero ssid copy offset [] is enough = record { enough = omega arith; no_more = omega arith }
-least_new most zero ssid copy offset (byte ∷ bytes) is enough = absurd (omega arith)
-least_new most (suc more) ssid copy offset [] is enough = record { enough = omega arith; no_more = omega arith }
-least_new most (suc more) ssid copy offset (byte ∷ bytes) is enough =
-    let rest = drop most (byte ∷ bytes) in
-    let left = length-drop most (byte ∷ bytes) in
-    let others = least_new most more ssid copy (offset + most) rest is (omega (arith, left)) in
-    record { enough = omega (arith, left, others.enough); no_more = omega (arith, left, others.no_more) }
-
--- ---- one push into an empty buffer
-
-pub pack_joins : (ssid copy offset : ℕ) (piece : List ℕ) → JoinFrom ssid copy offset (all_chunks (pack [] ssid copy offset piece)) piece
-unfolding pack
-pack_joins ssid copy offset piece = joins_new 4016 (length piece) ssid copy offset piece (omega arith) (omega arith)
-
-pub pack_count : (ssid copy offset : ℕ) (piece : List ℕ) → length (pack [] ssid copy offset piece) ≡ div_ceil (length piece) 4016
-unfolding pack
-pack_count ssid copy offset piece =
-    let least = least_new 4016 (length piece) ssid copy offset piece refl (omega arith) in
-    omega (arith, least.enough, least.no_more)
-
--- ---- one push behind what is there
+pub packed_joins : (size ssid copy offset : ℕ) (piece : List ℕ) → 1 ≤ chunk_size size
+    → JoinFrom ssid copy offset (all_chunks (packed size [] ssid copy offset piece)) piece
+packed_joins size ssid copy offset piece some = joins_new (chunk_size size) (length piece) ssid copy offset piece some (omega arith)
 
 added_behind : (last front : List ChunkText) (rest : List (List ChunkText))
     → all_chunks ((last ++ front) ∷ rest) ≡ all_chunks (last ∷ []) ++ (front ++ all_chunks rest)
@@ -104,21 +81,28 @@ joins_last most more ssid copy offset (suc room) (byte ∷ bytes) some enough =
     (joins_new most more ssid copy (offset + suc room) (drop room bytes) some (omega (arith, length-drop room bytes)))
     (λ less. all_none most more ssid copy (offset + suc room) (drop room bytes) (omega (arith, length-drop room bytes)))
 
-packed_adds : (size : ℕ) (blocks : List (List ChunkText)) (ssid copy offset : ℕ) (piece : List ℕ) → 1 ≤ chunk_size size
+pub packed_adds : (size : ℕ) (blocks : List (List ChunkText)) (ssid copy offset : ℕ) (piece : List ℕ) → 1 ≤ chunk_size size
     → AddsChunks blocks (packed size blocks ssid copy offset piece) ssid copy offset piece
 packed_adds size [] ssid copy offset piece some = record {
   added = all_chunks (new_blocks (chunk_size size) (length piece) ssid copy offset piece);
   behind = refl;
   joined = joins_new (chunk_size size) (length piece) ssid copy offset piece some (omega arith);
+  parts = All-from_recursion (IsPartOf ssid copy offset piece) _ (joined_parts ssid copy offset _ piece
+      (joins_new (chunk_size size) (length piece) ssid copy offset piece some (omega arith))
+      (have-new (chunk_size size) (length piece) ssid copy offset piece));
 }
 packed_adds size (last ∷ []) ssid copy offset piece some =
     let room = room_behind size last in
     let front = chunk_of ssid copy offset (take room piece) in
     let rest = new_blocks (chunk_size size) (length piece) ssid copy (offset + room) (drop room piece) in
+    let joins = joins_last (chunk_size size) (length piece) ssid copy offset room piece some (omega arith) in
     record {
       added = front ++ all_chunks rest;
       behind = added_behind last front rest;
-      joined = joins_last (chunk_size size) (length piece) ssid copy offset room piece some (omega arith);
+      joined = joins;
+      parts = All-from_recursion (IsPartOf ssid copy offset piece) _ (joined_parts ssid copy offset _ piece joins
+          (have-append front (all_chunks rest) (have-chunk_of ssid copy offset (take room piece))
+          (have-new (chunk_size size) (length piece) ssid copy (offset + room) (drop room piece))));
     }
 packed_adds size (block ∷ next ∷ more) ssid copy offset piece some =
     let rest = packed_adds size (next ∷ more) ssid copy offset piece some in
@@ -126,12 +110,8 @@ packed_adds size (block ∷ next ∷ more) ssid copy offset piece some =
       added = rest.added;
       behind = ap (λ (chunks : List ChunkText). block ++ chunks) rest.behind ∙ sym (append_assoc block (all_chunks (next ∷ more)) rest.added);
       joined = rest.joined;
+      parts = rest.parts;
     }
-
-pub pack_adds : (blocks : List (List ChunkText)) (ssid copy offset : ℕ) (piece : List ℕ)
-    → AddsChunks blocks (pack blocks ssid copy offset piece) ssid copy offset piece
-unfolding pack
-pack_adds blocks ssid copy offset piece = packed_adds 4040 blocks ssid copy offset piece (omega arith)
 
 -- ---- many pushes
 
@@ -173,18 +153,62 @@ pieces_more ssid copy push more false is =
     (cond b (push ∷ filter (λ (one : Push). (one.ssid == ssid) && (one.copy == copy)) more)
     (filter (λ (one : Push). (one.ssid == ssid) && (one.copy == copy)) more))) is
 
-pub pushes_kept : (blocks : List (List ChunkText)) (pushes : List Push) (ssid copy : ℕ)
-    → bytes_of ssid copy (all_chunks (pushed blocks pushes)) ≡ bytes_of ssid copy (all_chunks blocks) ++ pieces_of ssid copy pushes
-pushes_kept blocks [] ssid copy = sym (append-nil (bytes_of ssid copy (all_chunks blocks)))
-pushes_kept blocks (push ∷ more) ssid copy =
+pub pushes_kept : (size : ℕ) (blocks : List (List ChunkText)) (pushes : List Push) (ssid copy : ℕ) → 1 ≤ chunk_size size
+    → bytes_of ssid copy (all_chunks (pushed size blocks pushes)) ≡ bytes_of ssid copy (all_chunks blocks) ++ pieces_of ssid copy pushes
+pushes_kept size blocks [] ssid copy some = sym (append-nil (bytes_of ssid copy (all_chunks blocks)))
+pushes_kept size blocks (push ∷ more) ssid copy some =
     let test = (push.ssid == ssid) && (push.copy == copy) in
-    let new = pack blocks push.ssid push.copy push.offset push.piece in
-    let adds = pack_adds blocks push.ssid push.copy push.offset push.piece in
+    let new = packed size blocks push.ssid push.copy push.offset push.piece in
+    let adds = packed_adds size blocks push.ssid push.copy push.offset push.piece some in
     let old = bytes_of ssid copy (all_chunks blocks) in
     let rest = pieces_of ssid copy more in
-    pushes_kept new more ssid copy
+    pushes_kept size new more ssid copy some
     ∙ ap (λ (bytes : List ℕ). bytes ++ rest)
     (ap (bytes_of ssid copy) adds.behind ∙ bytes-append ssid copy (all_chunks blocks) adds.added
     ∙ ap (λ (bytes : List ℕ). old ++ bytes) (bytes_joined ssid copy push.ssid push.copy push.offset test adds.added push.piece adds.joined refl))
     ∙ append_assoc old (cond test push.piece []) rest
     ∙ ap (λ (bytes : List ℕ). old ++ bytes) (sym (pieces_more ssid copy push more test refl))
+
+-- ---- whether a save set has a chunk
+
+or-assoc : (one two three : Bool) → ((one || two) || three) ≡ (one || (two || three))
+or-assoc true two three = refl
+or-assoc false two three = refl
+
+pub has_set-append : (ssid : ℕ) (one other : List ChunkText) → has_set ssid (one ++ other) ≡ (has_set ssid one || has_set ssid other)
+has_set-append ssid [] other = refl
+has_set-append ssid (chunk ∷ one) other =
+    ap (λ (b : Bool). (chunk.ssid == ssid) || b) (has_set-append ssid one other)
+    ∙ sym (or-assoc (chunk.ssid == ssid) (has_set ssid one) (has_set ssid other))
+
+or-same : (b : Bool) → (b || b) ≡ b
+or-same true = refl
+or-same false = refl
+
+-- chunks that join to a piece that has bytes are of its save set
+has_set-more : (ssid s copy offset : ℕ) (chunk : ChunkText) (chunks : List ChunkText) (piece : List ℕ) → JoinFrom s copy offset (chunk ∷ chunks) piece
+    → has_set ssid (chunk ∷ chunks) ≡ (s == ssid)
+has_set-more ssid s copy offset chunk [] piece joins =
+    ap (λ (n : ℕ). (n == ssid) || false) joins.0 ∙ or-false (s == ssid)
+  where
+    or-false : (b : Bool) → (b || false) ≡ b
+    or-false true = refl
+    or-false false = refl
+has_set-more ssid s copy offset chunk (next ∷ chunks) piece joins =
+    ap (λ (n : ℕ). (n == ssid) || has_set ssid (next ∷ chunks)) joins.0
+    ∙ ap (λ (b : Bool). (s == ssid) || b) (has_set-more ssid s copy (offset + length chunk.bytes) next chunks joins.3.0 joins.3.2)
+    ∙ or-same (s == ssid)
+
+pub has_set-joined : (ssid s copy offset : ℕ) (chunks : List ChunkText) (piece : List ℕ) → JoinFrom s copy offset chunks piece → 1 ≤ length piece
+    → has_set ssid chunks ≡ (s == ssid)
+has_set-joined ssid s copy offset [] piece joins some =
+    let none : length piece ≡ 0 = ap length joins in absurd (omega (arith, none, some))
+has_set-joined ssid s copy offset (chunk ∷ chunks) piece joins some = has_set-more ssid s copy offset chunk chunks piece joins
+
+-- a piece that has bytes adds its save set to those that have a chunk
+pub packed_sets : (size : ℕ) (blocks : List (List ChunkText)) (ssid s copy offset : ℕ) (piece : List ℕ) → 1 ≤ chunk_size size → 1 ≤ length piece
+    → has_set ssid (all_chunks (packed size blocks s copy offset piece)) ≡ (has_set ssid (all_chunks blocks) || (s == ssid))
+packed_sets size blocks ssid s copy offset piece some more =
+    let adds = packed_adds size blocks s copy offset piece some in
+    ap (has_set ssid) adds.behind ∙ has_set-append ssid (all_chunks blocks) adds.added
+    ∙ ap (λ (b : Bool). has_set ssid (all_chunks blocks) || b) (has_set-joined ssid s copy offset adds.added piece adds.joined more)

@@ -90,7 +90,7 @@ packed_none size (block ∷ next ∷ more) ssid copy offset piece none =
     ap (λ (rest : List (List ChunkText)). block ∷ rest) (packed_none size (next ∷ more) ssid copy offset piece none)
 
 -- a last block without room stays
-packed_full : (size : ℕ) (last : List ChunkText) (ssid copy offset : ℕ) (piece : List ℕ) → 1 ≤ chunk_size size → room_behind size last ≡ 0
+pub packed_full : (size : ℕ) (last : List ChunkText) (ssid copy offset : ℕ) (piece : List ℕ) → 1 ≤ chunk_size size → room_behind size last ≡ 0
     → packed size (last ∷ []) ssid copy offset piece ≡ last ∷ new_blocks (chunk_size size) (length piece) ssid copy offset piece
 packed_full size last ssid copy offset piece some full =
     let most = chunk_size size in
@@ -168,6 +168,11 @@ packed_begun size (block ∷ next ∷ blocks) ssid copy offset count piece some 
     ap (λ (rest : List (List ChunkText)). block ∷ rest) (packed_begun size (next ∷ blocks) ssid copy offset count piece some full more is)
 
 -- ---- the buffer's words
+
+pub pack_is : (blocks : List (List ChunkText)) (ssid copy offset : ℕ) (piece : List ℕ)
+    → pack blocks ssid copy offset piece ≡ packed 4040 blocks ssid copy offset piece
+unfolding pack
+pack_is blocks ssid copy offset piece = refl
 
 pub pack_none : (blocks : List (List ChunkText)) (ssid copy offset : ℕ) (piece : List ℕ) → length piece ≡ 0
     → pack blocks ssid copy offset piece ≡ blocks

@@ -17,7 +17,7 @@ pub record Covers (start end : ℕ) (chunks : List Placed) : Type 0 where
   pub before : (place : ℕ) → place < start → count_by (has_place place) chunks ≡ 0
   pub behind : (place : ℕ) → end ≤ place → count_by (has_place place) chunks ≡ 0
 
-whole_same : (one other : ℕ) → Whole one ≡ Whole other → one ≡ other
+pub whole_same : (one other : ℕ) → Whole one ≡ Whole other → one ≡ other
 whole_same one other is = cc
 
 -- whether one chunk has a place
@@ -49,7 +49,7 @@ next_covers start end chunk more here rest = record {
 }
 
 -- a walk that finds no fault at a chunk goes on behind it
-goes_on : (above below : Bool) (place offset end : ℕ) (rest : Tiling)
+pub goes_on : (above below : Bool) (place offset end : ℕ) (rest : Tiling)
     → cond above (Hole place) (cond below (Overlap offset) rest) ≡ Whole end → (above ≡ false) × (below ≡ false) × (rest ≡ Whole end)
 goes_on true below place offset end rest is = absurd (let no : ⊥ = cc in no)
 goes_on false true place offset end rest is = absurd (let no : ⊥ = cc in no)

@@ -1,24 +1,15 @@
--- What a buffer's fields hold.
-use Rattle.std.specs.Prelude.{◌≡◌, ℕ, ◌≤◌, List, length, take, drop}
-use Rattle.volume_block.specs.Chunks.{ChunkText}
-use Rattle.chunk_mux.specs.Text.{chunks_in, Hold}
+-- What a buffer holds.
+use Rattle.std.specs.Prelude.{◌≡◌, ℕ, ◌≤◌, List, length}
+use Rattle.volume_block.specs.Chunks.{ChunkText, all_chunks}
+use Rattle.chunk_mux.specs.Pushes.{has_set}
+use Rattle.chunk_mux.specs.Ssids.{has_number}
 use Rattle.chunk_mux.specs.declared.buffer.MuxBuffer.TheInside.{Inside}
-
--- how much of each data block is used, of those that are begun
-abbrev pub used_in : Inside → List ℕ
-used_in inside = take inside.begun inside.used
-
--- the data blocks stand behind the mark
-abbrev pub data_in : Inside → List (List ℕ)
-data_in inside = drop 1 inside.blocks.items
 
 -- the chunks of each data block that is begun
 abbrev pub view_of : Inside → List (List ChunkText)
-view_of inside = chunks_in (used_in inside) (data_in inside)
+view_of inside = inside.blocks
 
--- a mark, 64 data blocks and a closed block; chunks fill what is used of the data blocks
+-- the save sets are those that have a chunk, each once
 pub record IsBuffer (inside : Inside) : Type 0 where
-  pub whole : length inside.blocks.items ≡ 66
-  pub places : length inside.used ≡ 64
-  pub counted : inside.begun ≤ 64
-  pub holds : (blocks : List (List ChunkText)) × Hold blocks (used_in inside) (data_in inside)
+  pub exact : (ssid : ℕ) → has_number ssid inside.ssids ≡ has_set ssid (all_chunks inside.blocks)
+  pub few : length inside.ssids ≤ length (all_chunks inside.blocks)

@@ -1,10 +1,17 @@
--- What a buffer is once what it lends has come back.
+-- What blocks and a buffer are once what they lend has come back.
 use Rattle.std.specs.Prelude.{◌≡◌, List, ⊤}
 use mathlib.Core.Option.{none}
 use Rattle.std.specs.Borrow.{MutBor, Fml, follows_so}
 use Rattle.volume_block.specs.Chunks.{ChunkText}
-use Rattle.chunk_mux.specs.contracts.buffer.MuxBuffer.{the_row}
+use Rattle.chunk_mux.specs.contracts.blocks.DataBlocks.{the_row as blocks_row}
+use Rattle.chunk_mux.specs.contracts.buffer.MuxBuffer.{the_row as buffer_row}
+
+-- the blocks are as before
+abbrev pub BlocksStay : MutBor (List (List ChunkText)) → Fml
+BlocksStay blocks =
+    follows_so blocks_row blocks_row blocks.ghost_name none (λ _ _. ⊤) (λ after. after ≡ blocks.now)
 
 -- the buffer is as before
 abbrev pub StaysAsItWas : MutBor (List (List ChunkText)) → Fml
-StaysAsItWas buffer = follows_so the_row the_row buffer.ghost_name none (λ _ _. ⊤) (λ after. after ≡ buffer.now)
+StaysAsItWas buffer =
+    follows_so buffer_row buffer_row buffer.ghost_name none (λ _ _. ⊤) (λ after. after ≡ buffer.now)

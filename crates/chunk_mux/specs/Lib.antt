@@ -1,7 +1,12 @@
+pub mod Blocks
 pub mod Buffer
 pub mod Lending
 pub mod Packing
+pub mod Placing
 pub mod Sealing
+pub mod Sections
+pub mod Spans
+pub mod Ssids
 pub mod Text
 pub mod Pushes
 pub mod Tiles

@@ -1,5 +1,7 @@
--- How pieces of streams are packed into data blocks. `size` is how many bytes a block's payload has.
-use Rattle.std.specs.Prelude.{ℕ, zero, suc, ◌+◌, ◌-◌, ◌*◌, ◌≤◌, List, [], ◌∷◌, ◌++◌, length, take, drop, ◌==◌, if◌then◌else◌}
+-- How pieces of streams are packed into data blocks. `size` is how many bytes a block's payload
+-- has.
+use Rattle.std.specs.Prelude.{ℕ, zero, suc, ◌+◌, ◌-◌, ◌*◌, ◌≤◌, List, [], ◌∷◌, ◌++◌, length, take}
+use Rattle.std.specs.Prelude.{drop, ◌==◌, if◌then◌else◌}
 use Rattle.volume_block.specs.Chunks.{ChunkText, chunks_text}
 
 -- the payload of a data block
@@ -44,8 +46,8 @@ chunk_of ssid copy offset [] = []
 chunk_of ssid copy offset (byte ∷ more) =
     record { ssid = ssid; copy = copy; offset = offset; bytes = byte ∷ more } ∷ []
 
--- Bytes in new blocks: each has one chunk of `most` bytes, or of those that are left. There are at most
--- as many blocks as the second number says.
+-- Bytes in new blocks: each has one chunk of `most` bytes, or of those that are left. There are at
+-- most as many blocks as the second number says.
 abbrev pub new_blocks : ℕ → ℕ → ℕ → ℕ → ℕ → List ℕ → List (List ChunkText)
 new_blocks most zero ssid copy offset bytes = []
 new_blocks most (suc more) ssid copy offset [] = []
@@ -53,22 +55,29 @@ new_blocks most (suc more) ssid copy offset (byte ∷ bytes) =
     chunk_of ssid copy offset (take most (byte ∷ bytes))
     ∷ new_blocks most more ssid copy (offset + most) (drop most (byte ∷ bytes))
 
--- The blocks once a piece is put behind them: its first bytes are a chunk in the last block, as many as
--- have room there, and the others are in new blocks.
+-- The blocks once a piece is put behind them: its first bytes are a chunk in the last block, as
+-- many as have room there, and the others are in new blocks.
 abbrev pub packed : ℕ → List (List ChunkText) → ℕ → ℕ → ℕ → List ℕ → List (List ChunkText)
-packed size [] ssid copy offset piece = new_blocks (chunk_size size) (length piece) ssid copy offset piece
+packed size [] ssid copy offset piece =
+    new_blocks (chunk_size size) (length piece) ssid copy offset piece
 packed size (last ∷ []) ssid copy offset piece =
     let room = room_behind size last in
     (last ++ chunk_of ssid copy offset (take room piece))
     ∷ new_blocks (chunk_size size) (length piece) ssid copy (offset + room) (drop room piece)
-packed size (block ∷ next ∷ more) ssid copy offset piece = block ∷ packed size (next ∷ more) ssid copy offset piece
+packed size (block ∷ next ∷ more) ssid copy offset piece =
+    block ∷ packed size (next ∷ more) ssid copy offset piece
 
 -- the data blocks of a buffer after a push
 unfoldable pub pack : List (List ChunkText) → ℕ → ℕ → ℕ → List ℕ → List (List ChunkText)
 pack blocks ssid copy offset piece = packed payload_size blocks ssid copy offset piece
 
--- The first data block that a piece goes into, counted from 0. That of a piece without bytes is the last
--- block.
+-- The first data block that a piece goes into, counted from 0. That of a piece without bytes is the
+-- last block.
+abbrev pub first_in : ℕ → List (List ChunkText) → List ℕ → ℕ
+first_in size blocks [] = length blocks - 1
+first_in size blocks (byte ∷ more) =
+    if room_in size blocks == 0 then length blocks else length blocks - 1
+
+-- the same in a buffer
 abbrev pub first_used : List (List ChunkText) → List ℕ → ℕ
-first_used blocks [] = length blocks - 1
-first_used blocks (byte ∷ more) = if room_in payload_size blocks == 0 then length blocks else length blocks - 1
+first_used blocks piece = first_in payload_size blocks piece

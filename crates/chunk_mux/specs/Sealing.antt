@@ -13,8 +13,9 @@ seal_first volid number (used ∷ more) [] = []
 seal_first volid number (used ∷ more) (block ∷ blocks) =
     block_text 0x44 volid number (used_text used block) ∷ seal_first volid (number + 1) more blocks
 
--- The first blocks are the region for this volume and mark place with these chunks, which stand in them as
--- before.
-pub record SealsRegion (volid mark : ℕ) (used : List ℕ) (new : List (List ℕ)) (chunks : List (List ChunkText)) : Type 0 where
+-- The first blocks are the region for this volume and mark place with these chunks, which stand in
+-- them as before.
+pub record SealsRegion (volid mark : ℕ) (used : List ℕ) (new : List (List ℕ))
+    (chunks : List (List ChunkText)) : Type 0 where
   pub holds : Hold chunks used (drop 1 new)
   pub text : IsSealed volid mark chunks (flat_map (λ block. block) (take (length used + 2) new))

@@ -24,6 +24,7 @@ fn put(buffer: &mut MuxBuffer, rt: &impl Abort, ssid: u64, offset: u64, count: u
 fn room_is_counted_in_chunks(rt: HostRuntime) -> Result<(), Fail> {
     let mut buffer = MuxBuffer::new(rt.alloc()).ok().ok_or("no memory")?;
     assert!(rt; buffer.fits(257_024) && !buffer.fits(257_025));
+    assert!(rt; !buffer.holds(Ssid(1)));
     // 32 blocks of 4,016 bytes, and one of 2,560, where 4,040 - 2,584 - 24 = 1,432 more have room.
     let span = put(&mut buffer, &rt, 1, 0, 131_072);
     assert_eq!(rt; span, Span { first: 0, last: 32 });
@@ -51,7 +52,9 @@ fn room_is_counted_in_chunks(rt: HostRuntime) -> Result<(), Fail> {
         }
     );
     assert_eq!(rt; buffer.blocks(), 34);
+    assert!(rt; buffer.holds(Ssid(1)) && buffer.holds(Ssid(2)) && !buffer.holds(Ssid(3)));
     buffer.clear();
+    assert!(rt; !buffer.holds(Ssid(1)));
     assert_eq!(rt; buffer.blocks(), 0);
     Ok(())
 }

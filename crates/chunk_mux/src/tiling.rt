@@ -2,7 +2,8 @@
 
 ghost use Rattle.std.specs.Prelude.{◌≡◌, ◌+◌, ◌<◌, All, length};
 ghost use Rattle.std.specs.List.Sorted.{IsPermutation, IsSorted};
-ghost use Rattle.chunk_mux.specs.Tiles.{IsInStream, place_order, tiling_from};
+ghost use Rattle.chunk_mux.specs.Tiles.{IsInStream, StandApart, AreInOrder, place_order};
+ghost use Rattle.chunk_mux.specs.Tiles.{tiling_from};
 
 use room_base::Volid;
 
@@ -35,6 +36,8 @@ pub fn tile(chunks: &mut Vec<Placed>) -> Tiling
     requires { All IsInStream chunks.old.items }
     ensures same { IsPermutation chunks.old.items chunks.new.items }
     ensures sorted { IsSorted place_order chunks.new.items }
+    // Of chunks that each stand in a place of their own, each is before all those behind it.
+    ensures strict { StandApart chunks.old.items → AreInOrder chunks.new.items }
     ensures tiling { result ≡ tiling_from 0 chunks.new.items }
 {
     chunks.sort_unstable_by_key(|chunk| (chunk.offset, chunk.volid, chunk.block, chunk.start));

@@ -1,3 +1,4 @@
+pub mod Appending
 pub mod Blocks
 pub mod Deciding
 pub mod Finding

@@ -60,3 +60,7 @@ JoinFrom ssid copy offset [] bytes = bytes ≡ []
 JoinFrom ssid copy offset (chunk ∷ chunks) bytes =
     (chunk.ssid ≡ ssid) × (chunk.copy ≡ copy) × (chunk.offset ≡ offset)
     × ((rest : List ℕ) × (bytes ≡ chunk.bytes ++ rest) × JoinFrom ssid copy (offset + length chunk.bytes) chunks rest)
+
+-- the bytes of chunks, in their order
+abbrev pub joined : List ChunkText → List ℕ
+joined chunks = flat_map (λ (chunk : ChunkText). chunk.bytes) chunks

@@ -1,7 +1,7 @@
 //! Laws of blocks: each function has an empty body, and its contract is the law.
 
 ghost use Rattle.std.specs.Prelude.{◌≡◌, ℕ, List};
-ghost use Rattle.volume_block.specs.Chunks.{ChunkText};
+ghost use Rattle.volume_block.specs.Chunks.{ChunkText, JoinFrom, joined};
 ghost use Rattle.volume_block.specs.Valid.{HoldsChunks, ValidBlock};
 ghost use Rattle.volume_block.specs.declared.block.Block.{Block};
 
@@ -18,4 +18,11 @@ pub fn one_block()
 pub fn one_list_of_chunks()
     ensures { (bytes : List ℕ) (volid number volume place : ℕ) (chunks others : List ChunkText) → HoldsChunks bytes volid number chunks
         → HoldsChunks bytes volume place others → chunks ≡ others }
+{}
+
+/// Chunks that join to bytes have these bytes, in their order.
+#[tactic(auto, using(crate::proofs::Appending::joined_bytes))]
+pub fn joined_chunks()
+    ensures { (ssid copy offset : ℕ) (chunks : List ChunkText) (bytes : List ℕ)
+        → JoinFrom ssid copy offset chunks bytes → joined chunks ≡ bytes }
 {}

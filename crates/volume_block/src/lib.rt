@@ -6,6 +6,7 @@ mod block;
 mod chunks;
 mod decode;
 mod encode;
+mod joining;
 mod label;
 mod laws;
 mod layout;
@@ -16,8 +17,9 @@ pub use block::{BLOCK_SIZE, BadBlock, Block, Chunk, MAX_FILE_BLOCKS, PAYLOAD_SIZ
 pub use chunks::next_chunk;
 pub use decode::{decode_block, decode_label};
 pub use encode::{encode_label, encode_mark, seal_data, write_chunk_head};
+pub use joining::{append_chunks, chunk_bytes};
 pub use label::{Label, MAX_CAPACITY, MAX_CART, MIN_CAPACITY};
-pub use laws::{one_block, one_list_of_chunks};
+pub use laws::{joined_chunks, one_block, one_list_of_chunks};
 pub use layout::{CHUNK_HEAD_SIZE, PAYLOAD_START};
 
 #[cfg(test)]

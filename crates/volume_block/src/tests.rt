@@ -4,6 +4,7 @@ ghost use Rattle.volume_block.specs.Valid.{IsLabel};
 use super::*;
 use crate::sealing::finish_block;
 use room_base::{Cart, CopyNo, Moment, Ssid, Volid};
+use std::alloc::Global;
 use std::test::*;
 
 const RAW_VOLID: Volid = Volid(9_223_372_036_854_775_809);
@@ -147,6 +148,20 @@ fn two_chunks(block: &[u8]) -> (Option<Chunk>, Option<Chunk>)
     }
 }
 
+// The bytes of a data block's chunks.
+fn bytes_in(block: &[u8], alloc: Global) -> Option<Vec<u8>>
+    requires { length block.now ≡ 4096 }
+{
+    let Ok(Block::Data { .. }) = decode_block(block, RAW_VOLID, 2) else {
+        return None;
+    };
+    let mut bytes = Vec::new(alloc);
+    match append_chunks(block, &mut bytes) {
+        Ok(()) => Some(bytes),
+        Err(_) => None,
+    }
+}
+
 #[test]
 fn chunks(rt: HostRuntime) {
     let mut block = [0u8; BLOCK_SIZE];
@@ -161,6 +176,8 @@ fn chunks(rt: HostRuntime) {
         next: 27,
     };
     assert_eq!(rt; two_chunks(&block), (Some(first), None));
+    let bytes = bytes_in(&block, rt.alloc());
+    assert!(rt; bytes.is_some_and(|bytes| bytes.as_slice() == b"abc".as_slice()));
 }
 
 // What may be named where one bit of this byte of `abc`'s data block is another: `F` for `D` is another

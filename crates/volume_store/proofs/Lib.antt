@@ -6,4 +6,7 @@ pub mod Finding
 pub mod Labelling
 pub mod OneContents
 pub mod Regions
+pub mod StandingCommit
+pub mod StandingFiles
+pub mod StandingPlaces
 pub mod Walking

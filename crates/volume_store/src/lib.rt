@@ -7,9 +7,11 @@ mod label;
 mod laws;
 mod marks;
 mod reading;
+mod standing;
 
 pub use commit::Volume;
 pub use label::{Found, read_label, write_label};
 pub use laws::{every_cartridge_is, one_contents};
 pub use marks::{FIRST_MARK, FilePlace, MarkWalk, MountFault, WalkFault, mount, walk_marks};
 pub use reading::{BLOCK_LIMIT, ReadFault, read_block};
+pub use standing::{a_file_adds_its_chunks, chunks_stand_in_files, one_chunk_stands_in_a_place};

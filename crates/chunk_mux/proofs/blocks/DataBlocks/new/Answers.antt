@@ -1,0 +1,7 @@
+use Rattle.std.proofs.Common.{refl}
+use Rattle.chunk_mux.specs.Text.{chunks_in}
+use Rattle.chunk_mux.proofs.blocks.DataBlocks.new.Goals as goal
+
+pub returns : goal.returns
+unfolding chunks_in
+returns c = refl

@@ -1,7 +1,0 @@
-use Rattle.std.proofs.Common.{refl}
-use Rattle.chunk_mux.specs.Text.{chunks_in}
-use Rattle.chunk_mux.proofs.buffer.MuxBuffer.clear.Goals as goal
-
-pub returns : goal.returns
-unfolding chunks_in
-returns c = refl
