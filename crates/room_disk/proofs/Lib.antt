@@ -8,3 +8,4 @@ pub mod Replaying
 pub mod Room
 pub mod Runs
 pub mod Syncing
+pub mod Writing

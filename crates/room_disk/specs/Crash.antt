@@ -5,6 +5,14 @@ use Rattle.std.specs.Prelude.{◌≡◌, ◌⊎◌, ℕ, ◌+◌, ◌-◌, ◌<�
 abbrev pub overlaid : ℕ → List ℕ → List ℕ → List ℕ
 overlaid at bytes file = take at file ++ replicate (at - length file) 0 ++ bytes ++ drop (at + length bytes) file
 
+-- the bytes were written at a place
+abbrev pub Overlays : ℕ → List ℕ → List ℕ → List ℕ → Type 0
+Overlays at bytes old new = new ≡ overlaid at bytes old
+
+-- the file was cut
+abbrev pub Cuts : ℕ → List ℕ → List ℕ → Type 0
+Cuts to old new = new ≡ take to old
+
 -- the letters that open a journal file, an entry, a label and a mark
 abbrev pub IsGateLetter : ℕ → Type 0
 IsGateLetter byte = (byte ≡ 0x4A) ⊎ (byte ≡ 0x45) ⊎ (byte ≡ 0x4C) ⊎ (byte ≡ 0x46)
@@ -30,3 +38,15 @@ pub record CutShort (to : ℕ) (old new : List ℕ) : Type 0 where
 abbrev pub GatedTorn : ℕ → ℕ → List ℕ → List ℕ → List ℕ → Type 0
 GatedTorn at letter rest old new =
     Torn (at + 1) rest old new ⊎ Torn at (letter ∷ []) (overlaid (at + 1) rest old) new
+
+-- What stands before a place is as it was: the file may have been cut there, and written from there on.
+pub record KeepsFront (place : ℕ) (old new : List ℕ) : Type 0 where
+  pub before : (at : ℕ) → at < place → at < length old → slice_index new at ≡ slice_index old at
+  pub no_shorter : min place (length old) ≤ length new
+
+-- Several writes into a range that may have been cut short: any bytes in it and past the old end.
+pub record TornWithin (from to : ℕ) (old new : List ℕ) : Type 0 where
+  pub before : (place : ℕ) → place < from → place < length old → slice_index new place ≡ slice_index old place
+  pub behind : (place : ℕ) → to ≤ place → place < length old → slice_index new place ≡ slice_index old place
+  pub no_shorter : length old ≤ length new
+  pub no_longer : length new ≤ max (length old) to

@@ -15,7 +15,7 @@ mod rebuilding;
 mod store;
 
 pub use folder_store::FolderStore;
-pub use gate::{write_gated, write_synced};
+pub use gate::{cut_unsynced, open_gate, write_gated, write_synced, write_unsynced};
 pub use mem_store::MemStore;
 pub use store::Store;
 
