@@ -1,5 +1,5 @@
 -- A walk over the marks of a cartridge, mark by mark.
-use Rattle.std.proofs.Common.{◌≡◌, ◌≢◌, ℕ, zero, suc, ◌+◌, ◌*◌, ◌<◌, ◌≤◌, ◌^◌, List, [], ◌∷◌, ◌++◌, length, get_or, Option, Some, None, refl, sym, ap, subst, ◌∙◌, append_assoc, arith, inl, inr}
+use Rattle.std.proofs.Common.{◌≡◌, ◌≢◌, ◌⊎◌, ℕ, zero, suc, ◌+◌, ◌*◌, ◌<◌, ◌≤◌, ◌^◌, List, [], ◌∷◌, ◌++◌, length, get_or, Option, Some, None, refl, sym, ap, subst, ◌∙◌, append_assoc, arith, inl, inr}
 use Rattle.std.proofs.lemmas.List.{append-nil, length-append}
 use Rattle.std.proofs.Math.Decide.{ℕ_discrete}
 use Rattle.volume_block.specs.Chunks.{ChunkText}
@@ -12,7 +12,7 @@ use Rattle.room_disk.specs.Disk.{DiskView, Quiet}
 use Rattle.std.specs.Prelude.{MatchOption}
 use Rattle.volume_store.specs.declared.marks.FilePlace.{FilePlace}
 use Rattle.volume_store.specs.declared.marks.MarkWalk.{MarkWalk}
-use Rattle.volume_store.proofs.Finding.{first_byte}
+use Rattle.volume_store.proofs.Finding.{first_byte, block_none}
 
 -- ---- each data place is whole or damaged
 
@@ -134,6 +134,12 @@ pub ends_short : (bytes : List ℕ) (volid number : ℕ) (walk : MarkWalk) → H
     → length bytes ≤ 4096 * walk.end → StopsAt bytes volid walk.end
 ends_short bytes volid number walk walked short =
     (walked.files, ends bytes volid number walk (Stop walk.end) walked (refl, inl short))
+
+-- at a mark that is invalid or isn't there
+pub ends_bad_or_short : (bytes : List ℕ) (volid number : ℕ) (walk : MarkWalk) → HasWalked bytes volid number walk
+    → (length (block_at bytes walk.end) ≡ 0) ⊎ IsBadMark (block_at bytes walk.end) volid walk.end → StopsAt bytes volid walk.end
+ends_bad_or_short bytes volid number walk walked (inl none) = ends_short bytes volid number walk walked (block_none walk.end bytes none)
+ends_bad_or_short bytes volid number walk walked (inr bad) = ends_bad bytes volid number walk walked bad
 
 -- ---- the numbers of a walk
 

@@ -11,5 +11,7 @@ mod reading;
 pub use commit::Volume;
 pub use label::{Found, read_label, write_label};
 pub use laws::{every_cartridge_is, one_contents};
-pub use marks::{FIRST_MARK, FilePlace, MarkWalk, MountFault, WalkFault, mount, walk_marks};
-pub use reading::{BLOCK_LIMIT, ReadFault, read_block};
+pub use marks::{
+    FIRST_MARK, FilePlace, MarkPlace, MarkWalk, MountFault, WalkFault, mount, read_mark, walk_marks,
+};
+pub use reading::{ReadFault, judge_block, read_block, read_blocks};
