@@ -117,28 +117,36 @@ writes_change does = record {
 
 -- ---- a call that failed
 
--- after a fault nothing is said of what would be whole
-pub changes_failed : {T E T' E' : Type 0} {file : ℕ} {AlsoWhole AlsoTorn : Step} {before now : DiskView} {fault : E} {answer : E'} (Whole Torn : Step)
-    → ChangesFile {T = T} file Whole Torn before now (Err fault) → ((old new : List ℕ) → Torn old new → AlsoTorn old new)
-    → ChangesFile {T = T'} file AlsoWhole AlsoTorn before now (Err answer)
-changes_failed {file = file} {AlsoTorn = AlsoTorn} {before = before} {now = now} Whole Torn does torn = record {
-  cause = record { later = does.cause.later; cause = does.cause.cause };
+on_ok_failed : {T E : Type 0} {failure : E} (answer : Result T E) (P : Type 0) → answer ≡ Err failure → OnOk answer P
+on_ok_failed (Ok value) P failed = absurd (cc failed)
+on_ok_failed (Err fault) P failed = tt
+
+on_err : {T E : Type 0} (answer : Result T E) (P : Type 0) → P → OnErr answer P
+on_err (Ok value) P holds = tt
+on_err (Err fault) P holds = holds
+
+-- The exit of a `?`, whose answer std's `err_from_is_err_and` shows: nothing is said of what would be whole.
+pub changes_failed : {T E T' E' : Type 0} {failure : E'} {file : ℕ} {AlsoWhole AlsoTorn : Step} {before now : DiskView} {fault : E} {answer : Result T' E'}
+    (Whole Torn : Step) → answer ≡ Err failure → ChangesFile {T = T} file Whole Torn before now (Err fault)
+    → ((old new : List ℕ) → Torn old new → AlsoTorn old new) → ChangesFile file AlsoWhole AlsoTorn before now answer
+changes_failed {file = file} {AlsoWhole = AlsoWhole} {AlsoTorn = AlsoTorn} {before = before} {now = now} {answer = answer} Whole Torn failed does torn = record {
+  cause = record { later = does.cause.later; cause = on_err answer (Rose (before.faults file) (now.faults file)) does.cause.cause };
   tells = does.tells;
   others = does.others;
-  whole = λ told. tt;
+  whole = λ told. on_ok_failed answer (AlsoWhole (before.reads file) (now.reads file)) failed;
   torn = λ told bytes left. comes_weaker file Torn AlsoTorn before torn bytes (does.torn told bytes left);
   moments = λ told. moments_weaker file Torn AlsoTorn before now torn (does.moments told);
 }
 
-pub writes_failed : {T E T' E' : Type 0} {file : ℕ} {AlsoWhole AlsoTorn : Step} {before now : DiskView} {fault : E} {answer : E'} (Whole Torn : Step)
-    → ChangesFile {T = T} file Whole Torn before now (Err fault) → ((old new : List ℕ) → Torn old new → AlsoTorn old new)
-    → WritesFile {T = T'} file AlsoWhole AlsoTorn before now (Err answer)
-writes_failed {file = file} {AlsoTorn = AlsoTorn} {before = before} {now = now} Whole Torn does torn = record {
-  cause = record { later = does.cause.later; cause = does.cause.cause };
+pub writes_failed : {T E T' E' : Type 0} {failure : E'} {file : ℕ} {AlsoWhole AlsoTorn : Step} {before now : DiskView} {fault : E} {answer : Result T' E'}
+    (Whole Torn : Step) → answer ≡ Err failure → ChangesFile {T = T} file Whole Torn before now (Err fault)
+    → ((old new : List ℕ) → Torn old new → AlsoTorn old new) → WritesFile file AlsoWhole AlsoTorn before now answer
+writes_failed {file = file} {AlsoWhole = AlsoWhole} {AlsoTorn = AlsoTorn} {before = before} {now = now} {answer = answer} Whole Torn failed does torn = record {
+  cause = record { later = does.cause.later; cause = on_err answer (Rose (before.faults file) (now.faults file)) does.cause.cause };
   tells = does.tells;
   others = does.others;
-  settled = λ told. tt;
-  whole = λ told. tt;
+  settled = λ told. on_ok_failed answer (Settled now file) failed;
+  whole = λ told. on_ok_failed answer (AlsoWhole (before.reads file) (now.reads file)) failed;
   torn = λ told bytes left. comes_weaker file Torn AlsoTorn before torn bytes (does.torn told bytes left);
   moments = λ told. moments_weaker file Torn AlsoTorn before now torn (does.moments told);
 }
