@@ -1,6 +1,7 @@
 pub mod Beginning
 pub mod Crashing
 pub mod Files
+pub mod Fronts
 pub mod Keeping
 pub mod Overlay
 pub mod Rebuilt

@@ -199,6 +199,15 @@ changes_then {file = file} {before = before} {now = now} {answer = answer} {Firs
           (on_file_then file (ComesOf TornNext mid file) (ComesOf Both before file) before mid (first.others told) (comes told))));
     }
 
+-- changes behind changes, of which several may be torn like one
+pub changes_more : {T E T' E' : Type 0} {file : ℕ} {before now : DiskView} {value : T} {answer : Result T' E'} {First Next Torn : Step} (mid : DiskView)
+    → ((old mid new : List ℕ) → Torn old mid → Torn mid new → Torn old new)
+    → ChangesFile {E = E} file First Torn before mid (Ok value) → ChangesFile file Next Torn mid now answer
+    → ChangesFile file (Then First Next) Torn before now answer
+changes_more {First = First} {Next = Next} {Torn = Torn} mid joins first next =
+    changes_weaker (Then First Next) (TornThen Torn Torn Torn) (changes_then mid first next) (λ old new whole. whole)
+    (λ old new torn. elim torn [ inl one ↦ one | inr both ↦ joins old both.0 new both.1 both.2 ])
+
 -- a write with a sync behind another: nothing was pending in between
 pub writes_then : {T E T' E' : Type 0} {file : ℕ} {before now : DiskView} {value : T} {answer : Result T' E'} {First Torn Next TornNext : Step} (mid : DiskView)
     → IsDisk before → WritesFile {E = E} file First Torn before mid (Ok value) → WritesFile file Next TornNext mid now answer

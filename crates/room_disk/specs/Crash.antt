@@ -43,10 +43,3 @@ GatedTorn at letter rest old new =
 pub record KeepsFront (place : ℕ) (old new : List ℕ) : Type 0 where
   pub before : (at : ℕ) → at < place → at < length old → slice_index new at ≡ slice_index old at
   pub no_shorter : min place (length old) ≤ length new
-
--- Several writes into a range that may have been cut short: any bytes in it and past the old end.
-pub record TornWithin (from to : ℕ) (old new : List ℕ) : Type 0 where
-  pub before : (place : ℕ) → place < from → place < length old → slice_index new place ≡ slice_index old place
-  pub behind : (place : ℕ) → to ≤ place → place < length old → slice_index new place ≡ slice_index old place
-  pub no_shorter : length old ≤ length new
-  pub no_longer : length new ≤ max (length old) to

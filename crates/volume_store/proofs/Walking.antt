@@ -8,7 +8,6 @@ use Rattle.volume_block.specs.declared.block.Block.TheVariants as kinds
 use Rattle.volume_block.proofs.Deciding.{is_data}
 use Rattle.volume_store.specs.Committed.{block_at, DataPlace, Whole, Damaged, AreDataPlaces, CommittedFile, End, Closed, Stop, EndsAt, FilesFrom}
 use Rattle.volume_store.specs.Reads.{IsFile, IsWanted, HasWalked, WalksOver, StopsAt, IsBadMark, IsWithin, HasRange}
-use Rattle.room_disk.specs.Disk.{DiskView, Quiet}
 use Rattle.std.specs.Prelude.{MatchOption}
 use Rattle.volume_store.specs.declared.marks.FilePlace.{FilePlace}
 use Rattle.volume_store.specs.declared.marks.MarkWalk.{MarkWalk}
@@ -169,14 +168,4 @@ range_past count walk next number inside range counted files end this other = re
   files = omega (arith, files, end, range.files, counted.0);
   wanted = wanted_range walk.end next.end number walk.files count walk.wanted next.wanted (ℕ_discrete (walk.files + 1) number) this other
       range.end.0 counted end range.wanted;
-}
-
--- ---- calls that only read, one behind the other
-
-pub quiet_then : (old mid new : DiskView) → Quiet old mid → Quiet mid new → Quiet old new
-quiet_then old mid new first second = record {
-  reads = λ file. second.reads file ∙ first.reads file;
-  leaves = λ file bytes left. first.leaves file bytes (second.leaves file bytes left);
-  later = omega (arith, first.later, second.later);
-  since = λ moment image early seen. first.since moment image early (second.since moment image (omega (arith, early, first.later)) seen);
 }

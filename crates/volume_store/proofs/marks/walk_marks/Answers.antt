@@ -1,10 +1,11 @@
 use Rattle.std.proofs.Common.{◌≡◌, ◌*◌, ◌<◌, ◌≤◌, ◌^◌, ◌∙◌, List, ℕ, length, get_or, ap, subst, arith}
 use Rattle.std.specs.Prelude.{IsTrue}
+use Rattle.room_disk.proofs.Runs.{quiet_then}
 use Rattle.volume_store.specs.Committed.{block_at}
 use Rattle.volume_store.specs.Writes.{cart_file}
 use Rattle.volume_store.specs.Reads.{FindsMark, WalksOver, StopsAt}
 use Rattle.volume_store.specs.declared.marks.MarkPlace.TheVariants as places
-use Rattle.volume_store.proofs.Walking.{goes_on, ends_closed, ends_bad_or_short, ends_short, range_past, quiet_then}
+use Rattle.volume_store.proofs.Walking.{goes_on, ends_closed, ends_bad_or_short, ends_short, range_past}
 use Rattle.volume_store.proofs.marks.walk_marks.Goals as goal
 
 pub returns-in-Closed-clause-walked : goal.returns-in-Closed-clause-walked
