@@ -16,7 +16,7 @@ pub use block::{BLOCK_SIZE, BadBlock, Block, Chunk, MAX_FILE_BLOCKS, PAYLOAD_SIZ
 pub use chunks::next_chunk;
 pub use decode::{decode_block, decode_label};
 pub use encode::{encode_label, encode_mark, seal_data, write_chunk_head};
-pub use label::{Label, MAX_CAPACITY, MAX_CART, MIN_CAPACITY};
+pub use label::{FIRST_RAW_VOLID, Label, MAX_CAPACITY, MAX_CART, MIN_CAPACITY};
 pub use laws::{one_block, one_list_of_chunks};
 pub use layout::{CHUNK_HEAD_SIZE, PAYLOAD_START};
 
