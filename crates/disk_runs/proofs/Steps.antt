@@ -10,25 +10,25 @@ use Rattle.room_disk.proofs.Runs.{leaves_then, leaves_weaker, on_file_then, othe
 use Rattle.disk_runs.specs.Runs.{FirstBeforeSecond, IsFrontAndOne, IsOneOf, AreBothWritten}
 
 -- the write of the first file leaves the second as it was
-pub first_leaves : (old new : DiskView) (first second : ℕ) (bytes : List ℕ) (P : List ℕ → Type 0) → first ≢ second → Settled old second
+pub first_leaves : {P : List ℕ → Type 0} (old new : DiskView) (first second : ℕ) (bytes : List ℕ) → first ≢ second → Settled old second
     → Leaves old new (OnFile first P old) → Leaves old new (FirstBeforeSecond first second bytes old)
-first_leaves old new first second bytes P apart settled run =
+first_leaves {P = P} old new first second bytes apart settled run =
     leaves_weaker old new (OnFile first P old) (FirstBeforeSecond first second bytes old) run
     (λ image now. inl (settled (image second) (now.others second (λ same. apart (sym same)))))
 
 -- while the second file is written the first is whole
-pub second_leaves : (old mid new : DiskView) (first second : ℕ) (bytes : List ℕ) (P : List ℕ → Type 0) → first ≢ second → Settled mid first
+pub second_leaves : {P : List ℕ → Type 0} (old mid new : DiskView) (first second : ℕ) (bytes : List ℕ) → first ≢ second → Settled mid first
     → mid.reads first ≡ overlaid 0 bytes (old.reads first) → Leaves mid new (OnFile second P mid)
     → Leaves mid new (FirstBeforeSecond first second bytes old)
-second_leaves old mid new first second bytes P apart settled whole run =
+second_leaves {P = P} old mid new first second bytes apart settled whole run =
     leaves_weaker mid new (OnFile second P mid) (FirstBeforeSecond first second bytes old) run
     (λ image now. inr (settled (image first) (now.others first apart) ∙ whole))
 
 -- a write of one of two files leaves all others
-pub one_leaves : {T E : Type 0} (first second file : ℕ) (Whole Torn : List ℕ → List ℕ → Type 0) (old new : DiskView) (answer : Result T E)
+pub one_leaves : {T E : Type 0} {Whole Torn : List ℕ → List ℕ → Type 0} {old new : DiskView} {answer : Result T E} (first second file : ℕ)
     → IsOneOf first second file → WritesFile file Whole Torn old new answer
     → Told old.tells (OthersThan (IsOneOf first second) old new) × Told old.tells (Leaves old new (OthersLeft (IsOneOf first second) old))
-one_leaves first second file Whole Torn old new answer is_one wrote = (
+one_leaves {Torn = Torn} {old = old} {new = new} first second file is_one wrote = (
   λ told. others_than (IsOneOf first second) file old new is_one (wrote.others told),
   λ told. others_left (IsOneOf first second) file (ComesOf Torn old file) old new is_one (wrote.moments told),
 )
