@@ -1,5 +1,7 @@
 -- What a write and a cut do to a file's bytes, and what a crash may leave of them.
 use Rattle.std.specs.Prelude.{◌≡◌, ◌⊎◌, ℕ, ◌+◌, ◌-◌, ◌<◌, ◌≤◌, max, min, List, [], ◌∷◌, ◌++◌, length, take, drop, replicate, slice_index}
+use Rattle.std.specs.Borrow.{Bor}
+use Rattle.std.specs.List.{flat_map}
 
 -- the file with the bytes written at a place; where that is past the end, zeros come between
 abbrev pub overlaid : ℕ → List ℕ → List ℕ → List ℕ
@@ -12,6 +14,10 @@ Overlays at bytes old new = new ≡ overlaid at bytes old
 -- the file was cut
 abbrev pub Cuts : ℕ → List ℕ → List ℕ → Type 0
 Cuts to old new = new ≡ take to old
+
+-- the bytes of the parts, one behind the other
+abbrev pub all_bytes : List (Bor (List ℕ)) → List ℕ
+all_bytes parts = flat_map (λ (part : Bor (List ℕ)). part.now) parts
 
 -- the letters that open a journal file, an entry, a label and a mark
 abbrev pub IsGateLetter : ℕ → Type 0

@@ -1,6 +1,6 @@
-ghost use Rattle.std.specs.Prelude.{◌+◌, ◌<◌, ◌≤◌, ◌^◌, [], ◌∷◌, length};
+ghost use Rattle.std.specs.Prelude.{◌+◌, ◌<◌, ◌≤◌, ◌^◌, [], ◌∷◌, length, OnOk};
 ghost use Rattle.room_base.specs.Outside.{Told};
-ghost use Rattle.room_disk.specs.Crash.{Overlays, Cuts, Torn, CutShort, GatedTorn};
+ghost use Rattle.room_disk.specs.Crash.{Overlays, Cuts, Torn, CutShort, GatedTorn, KeepsFront, all_bytes};
 ghost use Rattle.room_disk.specs.Writing.{ChangesFile, WritesFile};
 
 use crate::Store;
@@ -13,10 +13,32 @@ pub fn write_unsynced<D: Store>(
     at: u64,
     bytes: &[u8],
 ) -> Result<(), Failed>
-    ensures { ChangesFile file (Overlays at bytes.now) (Torn at bytes.now)
+    ensures fits { OnOk result (at + length bytes.now < 2 ^ 64) }
+    ensures changes { ChangesFile file (Overlays at bytes.now) (Torn at bytes.now)
         (D.view store.old) (D.view store.new) result }
 {
     store.write_at(file, at, bytes)
+}
+
+/// Writes the parts one behind the other from `at` on, of which nothing need be on the disk before the
+/// file is synced.
+pub fn write_parts<D: Store>(
+    store: &mut D,
+    file: u32,
+    at: u64,
+    parts: &[&[u8]],
+) -> Result<(), Failed>
+    requires { Told (D.view store.old).tells (at ≤ length ((D.view store.old).reads file)) }
+    // A crash leaves what stands before them.
+    ensures { ChangesFile file (Overlays at (all_bytes parts.now)) (KeepsFront at)
+        (D.view store.old) (D.view store.new) result }
+{
+    let mut next = at;
+    for part in parts {
+        write_unsynced(store, file, next, part)?;
+        next += part.len() as u64;
+    }
+    Ok(())
 }
 
 /// Cuts the file, which need not be shorter on the disk before it is synced.
