@@ -1,3 +1,4 @@
+pub mod Anew
 pub mod Beginning
 pub mod Crashing
 pub mod Files

@@ -145,3 +145,10 @@ overlaid_more at bytes more file =
         ]
       ]
     ])
+
+-- a write at the front of a file
+pub overlaid_first : (bytes file : List ℕ) (long : ℕ) → length bytes ≡ long → overlaid 0 bytes file ≡ bytes ++ drop long file
+overlaid_first bytes file long is =
+    let none : 0 - length file ≡ 0 = omega arith in
+    let from : 0 + length bytes ≡ long = omega (arith, is) in
+    ap (λ count. replicate {A = ℕ} count 0 ++ bytes ++ drop (0 + length bytes) file) none ∙ ap (λ count. bytes ++ drop count file) from

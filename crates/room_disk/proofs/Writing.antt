@@ -103,6 +103,22 @@ writes_weaker {file = file} {AlsoWhole = AlsoWhole} {AlsoTorn = AlsoTorn} {befor
   moments = λ told. moments_weaker file Torn AlsoTorn before now torn (does.moments told);
 }
 
+-- another word of what the file reads, of these bytes alone
+pub writes_reads : {T E : Type 0} {file : ℕ} {AlsoWhole Torn : Step} {before now : DiskView} {answer : Result T E} (Whole : Step)
+    → WritesFile file Whole Torn before now answer
+    → Told before.tells (Whole (before.reads file) (now.reads file) → AlsoWhole (before.reads file) (now.reads file))
+    → WritesFile file AlsoWhole Torn before now answer
+writes_reads {file = file} {AlsoWhole = AlsoWhole} {before = before} {now = now} {answer = answer} Whole does whole = record {
+  cause = does.cause;
+  tells = does.tells;
+  others = does.others;
+  settled = does.settled;
+  whole = λ told. on_ok_weaker answer (Whole (before.reads file) (now.reads file)) (AlsoWhole (before.reads file) (now.reads file))
+      (whole told) (does.whole told);
+  torn = does.torn;
+  moments = does.moments;
+}
+
 -- what was written with a sync is changed
 pub writes_change : {T E : Type 0} {file : ℕ} {Whole Torn : Step} {before now : DiskView} {answer : Result T E}
     → WritesFile file Whole Torn before now answer → ChangesFile file Whole Torn before now answer
@@ -207,6 +223,22 @@ pub changes_more : {T E T' E' : Type 0} {file : ℕ} {before now : DiskView} {va
 changes_more {First = First} {Next = Next} {Torn = Torn} mid joins first next =
     changes_weaker (Then First Next) (TornThen Torn Torn Torn) (changes_then mid first next) (λ old new whole. whole)
     (λ old new torn. elim torn [ inl one ↦ one | inr both ↦ joins old both.0 new both.1 both.2 ])
+
+-- a write with a sync behind changes
+pub changes_write : {T E T' E' : Type 0} {file : ℕ} {before now : DiskView} {value : T} {answer : Result T' E'} {First Torn Next TornNext : Step} (mid : DiskView)
+    → ChangesFile {E = E} file First Torn before mid (Ok value) → WritesFile file Next TornNext mid now answer
+    → WritesFile file (Then First Next) (TornThen Torn Torn TornNext) before now answer
+changes_write mid first next =
+    let both = changes_then mid first (writes_change next) in
+    record {
+      cause = both.cause;
+      tells = both.tells;
+      others = both.others;
+      settled = λ told. next.settled (rw first.tells told);
+      whole = both.whole;
+      torn = both.torn;
+      moments = both.moments;
+    }
 
 -- a write with a sync behind another: nothing was pending in between
 pub writes_then : {T E T' E' : Type 0} {file : ℕ} {before now : DiskView} {value : T} {answer : Result T' E'} {First Torn Next TornNext : Step} (mid : DiskView)

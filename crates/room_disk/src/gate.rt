@@ -1,6 +1,6 @@
 ghost use Rattle.std.specs.Prelude.{◌+◌, ◌<◌, ◌≤◌, ◌^◌, [], ◌∷◌, length, OnOk};
 ghost use Rattle.room_base.specs.Outside.{Told};
-ghost use Rattle.room_disk.specs.Crash.{Overlays, Cuts, Torn, CutShort, GatedTorn, KeepsFront, all_bytes};
+ghost use Rattle.room_disk.specs.Crash.{Overlays, Cuts, ReplacesEnd, Torn, CutShort, KeepsFront, IsGateLetter, GatedTorn, GatedPartsTorn, IsAnew, AnewTorn, all_bytes};
 ghost use Rattle.room_disk.specs.Writing.{ChangesFile, WritesFile};
 
 use crate::Store;
@@ -89,4 +89,70 @@ pub fn write_gated<D: Store>(
 {
     write_synced(store, file, at + 1, rest)?;
     open_gate(store, file, at, letter)
+}
+
+/// The same with several parts behind the gate, which has to be inside the file or at its end.
+pub fn write_parts_gated<D: Store>(
+    store: &mut D,
+    file: u32,
+    at: u64,
+    letter: u8,
+    parts: &[&[u8]],
+) -> Result<(), Failed>
+    requires next { at + 1 < 2 ^ 64 }
+    requires inside { Told (D.view store.old).tells (at < length ((D.view store.old).reads file)) }
+    // A crash leaves no open gate before bytes that aren't there.
+    ensures { WritesFile file (Overlays at (letter ∷ all_bytes parts.now))
+        (GatedPartsTorn at letter (all_bytes parts.now)) (D.view store.old) (D.view store.new) result }
+{
+    write_parts_synced(store, file, at + 1, parts)?;
+    open_gate(store, file, at, letter)
+}
+
+// Writes the parts one behind the other and syncs the file.
+fn write_parts_synced<D: Store>(
+    store: &mut D,
+    file: u32,
+    at: u64,
+    parts: &[&[u8]],
+) -> Result<(), Failed>
+    requires { Told (D.view store.old).tells (at ≤ length ((D.view store.old).reads file)) }
+    ensures { WritesFile file (Overlays at (all_bytes parts.now)) (KeepsFront at)
+        (D.view store.old) (D.view store.new) result }
+{
+    write_parts(store, file, at, parts)?;
+    store.sync(file)
+}
+
+/// Writes a file anew: the gate letter, which its first byte is, and the parts behind it. The gate is
+/// closed first, and opened only once all parts are on the disk. A crash at any moment leaves the file as it
+/// was, or with its gate closed, or whole.
+pub fn write_anew<D: Store>(
+    store: &mut D,
+    file: u32,
+    letter: u8,
+    parts: &[&[u8]],
+) -> Result<(), Failed>
+    requires { IsGateLetter letter }
+    ensures { WritesFile file (IsAnew letter (all_bytes parts.now)) (AnewTorn letter (all_bytes parts.now))
+        (D.view store.old) (D.view store.new) result }
+{
+    write_synced(store, file, 0, &[0])?;
+    replace_end(store, file, 1, parts)?;
+    open_gate(store, file, 0, letter)
+}
+
+// Puts the parts in the place of all that stands from `at` on, and syncs the file.
+fn replace_end<D: Store>(
+    store: &mut D,
+    file: u32,
+    at: u64,
+    parts: &[&[u8]],
+) -> Result<(), Failed>
+    requires { Told (D.view store.old).tells (at ≤ length ((D.view store.old).reads file)) }
+    ensures { WritesFile file (ReplacesEnd at (all_bytes parts.now)) (KeepsFront at)
+        (D.view store.old) (D.view store.new) result }
+{
+    cut_unsynced(store, file, at)?;
+    write_parts_synced(store, file, at, parts)
 }
