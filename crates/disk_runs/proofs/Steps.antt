@@ -2,24 +2,49 @@
 use Rattle.std.proofs.Common.{◌≡◌, ◌≢◌, ℕ, ◌+◌, ◌-◌, ◌≤◌, ◌<◌, List, [], ◌∷◌, ◌++◌, length, take, drop, get_or, replicate, refl, sym, ap, subst, ◌∙◌, arith, inl, inr}
 use Rattle.std.proofs.lemmas.List.{ext_get_or, length-take, get_or-take, take_more, drop_all, take-take, length-take-le, append-nil}
 use Rattle.room_disk.specs.Crash.{Torn, overlaid}
-use Rattle.room_disk.specs.Disk.{DiskView, Leaves, OnFile, Others, Settled}
-use Rattle.room_disk.proofs.Runs.{leaves_then, leaves_weaker, on_file_then}
-use Rattle.disk_runs.specs.Runs.{FirstBeforeSecond, IsFrontAndOne}
+use Rattle.std.specs.Prelude.{Result, Ok, Err, OnOk}
+use Rattle.room_base.specs.Outside.{Told}
+use Rattle.room_disk.specs.Disk.{DiskView, Leaves, OnFile, Others, OthersThan, OthersLeft, Settled}
+use Rattle.room_disk.specs.Writing.{ComesOf, WritesFile}
+use Rattle.room_disk.proofs.Runs.{leaves_then, leaves_weaker, on_file_then, others_than, others_left, settled_others}
+use Rattle.disk_runs.specs.Runs.{FirstBeforeSecond, IsFrontAndOne, IsOneOf, AreBothWritten}
 
 -- the write of the first file leaves the second as it was
-pub first_leaves : (old new : DiskView) (first second : ℕ) (bytes : List ℕ) (P : List ℕ → Type 0) → first ≢ second → Settled old second
+pub first_leaves : {P : List ℕ → Type 0} (old new : DiskView) (first second : ℕ) (bytes : List ℕ) → first ≢ second → Settled old second
     → Leaves old new (OnFile first P old) → Leaves old new (FirstBeforeSecond first second bytes old)
-first_leaves old new first second bytes P apart settled run =
+first_leaves {P = P} old new first second bytes apart settled run =
     leaves_weaker old new (OnFile first P old) (FirstBeforeSecond first second bytes old) run
     (λ image now. inl (settled (image second) (now.others second (λ same. apart (sym same)))))
 
 -- while the second file is written the first is whole
-pub second_leaves : (old mid new : DiskView) (first second : ℕ) (bytes : List ℕ) (P : List ℕ → Type 0) → first ≢ second → Settled mid first
+pub second_leaves : {P : List ℕ → Type 0} (old mid new : DiskView) (first second : ℕ) (bytes : List ℕ) → first ≢ second → Settled mid first
     → mid.reads first ≡ overlaid 0 bytes (old.reads first) → Leaves mid new (OnFile second P mid)
     → Leaves mid new (FirstBeforeSecond first second bytes old)
-second_leaves old mid new first second bytes P apart settled whole run =
+second_leaves {P = P} old mid new first second bytes apart settled whole run =
     leaves_weaker mid new (OnFile second P mid) (FirstBeforeSecond first second bytes old) run
     (λ image now. inr (settled (image first) (now.others first apart) ∙ whole))
+
+-- a write of one of two files leaves all others
+pub one_leaves : {T E : Type 0} {Whole Torn : List ℕ → List ℕ → Type 0} {old new : DiskView} {answer : Result T E} (first second file : ℕ)
+    → IsOneOf first second file → WritesFile file Whole Torn old new answer
+    → Told old.tells (OthersThan (IsOneOf first second) old new) × Told old.tells (Leaves old new (OthersLeft (IsOneOf first second) old))
+one_leaves {Torn = Torn} {old = old} {new = new} first second file is_one wrote = (
+  λ told. others_than (IsOneOf first second) file old new is_one (wrote.others told),
+  λ told. others_left (IsOneOf first second) file (ComesOf Torn old file) old new is_one (wrote.moments told),
+)
+
+-- both files are written, the second behind the first
+pub both_written : {T E : Type 0} (first second : ℕ) (bytes : List ℕ) (old mid new : DiskView) (answer : Result T E) → first ≢ second
+    → mid.reads first ≡ overlaid 0 bytes (old.reads first) → Settled mid first → Others first old mid → Others second mid new
+    → OnOk answer (new.reads second ≡ overlaid 0 bytes (mid.reads second)) → OnOk answer (Settled new second)
+    → OnOk answer (AreBothWritten first second bytes old new)
+both_written first second bytes old mid new (Ok value) apart whole settled others next written last = record {
+  first_reads = next.reads first apart ∙ whole;
+  second_reads = written ∙ ap (overlaid 0 bytes) (others.reads second (λ same. apart (sym same)));
+  first_settled = settled_others second first mid new apart next settled;
+  second_settled = last;
+}
+both_written first second bytes old mid new (Err fault) apart whole settled others next written last = tt
 
 -- a byte written behind the first ones
 pub front_torn : (bytes file : List ℕ) (place byte : ℕ) → place ≤ length bytes → Torn place (byte ∷ []) (take place bytes) file

@@ -1,6 +1,8 @@
+pub mod Anew
 pub mod Beginning
 pub mod Crashing
 pub mod Files
+pub mod Fronts
 pub mod Keeping
 pub mod Overlay
 pub mod Rebuilt
@@ -8,3 +10,4 @@ pub mod Replaying
 pub mod Room
 pub mod Runs
 pub mod Syncing
+pub mod Writing

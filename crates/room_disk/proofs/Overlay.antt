@@ -1,5 +1,5 @@
 -- What a write leaves, place by place, and what two writes in a row leave.
-use Rattle.std.proofs.Common.{◌≡◌, ℕ, suc, ◌+◌, ◌-◌, ◌<◌, ◌≤◌, List, [], ◌∷◌, ◌++◌, length, take, drop, replicate, get_or, max, sym, ap, ◌∙◌, arith, inl, inr}
+use Rattle.std.proofs.Common.{◌≡◌, ℕ, suc, ◌+◌, ◌-◌, ◌<◌, ◌≤◌, List, [], ◌∷◌, ◌++◌, length, take, drop, replicate, get_or, max, refl, sym, ap, ◌∙◌, arith, inl, inr}
 use Rattle.std.proofs.lemmas.List.{length-append, length-take, length-drop, length-replicate, get_or_append_left, get_or-append_right, get_or-drop, get_or-replicate, get_or_past, ext_get_or, places}
 use Rattle.std.proofs.lemmas.Bool.{cases_lt}
 use Rattle.room_disk.specs.Crash.{overlaid, Torn}
@@ -84,24 +84,71 @@ overlaid_front at letter rest file =
     (omega (arith, length-overlaid at (letter ∷ []) (overlaid (at + 1) rest file), length-overlaid (at + 1) rest file, length-overlaid at (letter ∷ rest) file))
     (λ k h. front_place at letter rest file k)
 
--- a torn gate that reads the letter is whole
-pub letter_whole : (at letter : ℕ) (rest old new : List ℕ) → Torn at (letter ∷ []) (overlaid (at + 1) rest old) new
-    → get_or new at 0 ≡ letter → new ≡ overlaid at (letter ∷ rest) old
-letter_whole at letter rest old new torn reads =
-    let before = overlaid (at + 1) rest old in
-    let long : length before ≡ max (length old) (at + 1 + length rest) = length-overlaid (at + 1) rest old in
+-- a torn gate that reads the letter is open before what stands there
+pub gate_whole : (at letter : ℕ) (whole new : List ℕ) → at < length whole → Torn at (letter ∷ []) whole new
+    → get_or new at 0 ≡ letter → new ≡ overlaid at (letter ∷ []) whole
+gate_whole at letter whole new inside torn reads =
     ext_get_or 0 _ _
-    (omega (arith, torn.no_shorter, torn.no_longer, long, length-overlaid at (letter ∷ []) before))
+    (omega (arith, inside, torn.no_shorter, torn.no_longer, length-overlaid at (letter ∷ []) whole))
     (λ k h. elim (cases_lt k at) [
-      | inl low ↦ torn.before k low (omega (arith, long)) ∙ sym (overlaid-before at (letter ∷ []) before k low)
+      | inl low ↦ torn.before k low (omega (arith, inside)) ∙ sym (overlaid-before at (letter ∷ []) whole k low)
       | inr from ↦ elim (cases_lt at k) [
-        | inl high ↦ torn.behind k (omega arith) (omega (arith, torn.no_longer, long)) ∙ sym (overlaid-behind at (letter ∷ []) before k (omega arith))
+        | inl high ↦ torn.behind k (omega arith) (omega (arith, torn.no_longer, inside)) ∙ sym (overlaid-behind at (letter ∷ []) whole k (omega arith))
         | inr here ↦ (let place : k ≡ at = omega arith in
             let gone : k - at ≡ 0 = omega arith in
-            let written : get_or (overlaid at (letter ∷ []) before) k 0 ≡ letter =
-            overlaid-within at (letter ∷ []) before k from (omega arith) ∙ ap (λ n. get_or (letter ∷ []) n 0) gone in
+            let written : get_or (overlaid at (letter ∷ []) whole) k 0 ≡ letter =
+            overlaid-within at (letter ∷ []) whole k from (omega arith) ∙ ap (λ n. get_or (letter ∷ []) n 0) gone in
             let read : get_or new k 0 ≡ letter = ap (λ n. get_or new n 0) place ∙ reads in
             read ∙ sym written)
       ]
     ])
+
+-- the same where what stands behind it was written first
+pub letter_whole : (at letter : ℕ) (rest old new : List ℕ) → Torn at (letter ∷ []) (overlaid (at + 1) rest old) new
+    → get_or new at 0 ≡ letter → new ≡ overlaid at (letter ∷ rest) old
+letter_whole at letter rest old new torn reads =
+    gate_whole at letter (overlaid (at + 1) rest old) new (omega (arith, length-overlaid (at + 1) rest old)) torn reads
     ∙ overlaid_front at letter rest old
+
+-- a write at the end of a file
+pub overlaid_end : (at : ℕ) (bytes file : List ℕ) → at ≡ length file → overlaid at bytes file ≡ file ++ bytes
+overlaid_end at bytes file ends =
+    ext_get_or 0 _ _
+    (omega (arith, ends, length-overlaid at bytes file, length-append file bytes))
+    (λ k h. elim (cases_lt k at) [
+      | inl low ↦ overlaid-before at bytes file k low ∙ sym (get_or_append_left file bytes 0 k (omega (arith, ends)))
+      | inr from ↦ overlaid-within at bytes file k from (omega (arith, ends, length-overlaid at bytes file))
+          ∙ sym (get_or-append_right file bytes at k 0 (sym ends) from)
+    ])
+
+-- two writes, the second where the first ends
+pub overlaid_more : (at : ℕ) (bytes more file : List ℕ)
+    → overlaid (at + length bytes) more (overlaid at bytes file) ≡ overlaid at (bytes ++ more) file
+overlaid_more at bytes more file =
+    let next = at + length bytes in
+    let first = overlaid at bytes file in
+    let long : length (bytes ++ more) ≡ length bytes + length more = length-append bytes more in
+    ext_get_or 0 _ _
+    (omega (arith, long, length-overlaid next more first, length-overlaid at bytes file, length-overlaid at (bytes ++ more) file))
+    (λ k h. elim (cases_lt k at) [
+      | inl low ↦ overlaid-before next more first k (omega arith) ∙ overlaid-before at bytes file k low ∙ sym (overlaid-before at (bytes ++ more) file k low)
+      | inr from ↦ elim (cases_lt k next) [
+        | inl inside ↦ overlaid-before next more first k inside ∙ overlaid-within at bytes file k from inside
+            ∙ sym (overlaid-within at (bytes ++ more) file k from (omega (arith, long)) ∙ get_or_append_left bytes more 0 (k - at) (omega arith))
+        | inr behind ↦ elim (cases_lt k (next + length more)) [
+          | inl second ↦ overlaid-within next more first k behind second
+              ∙ sym (overlaid-within at (bytes ++ more) file k from (omega (arith, long))
+              ∙ get_or-append_right bytes more (length bytes) (k - at) 0 refl (omega arith)
+              ∙ ap (λ n. get_or more n 0) (let same : k - at - length bytes ≡ k - next = omega arith in same))
+          | inr past ↦ overlaid-behind next more first k past ∙ overlaid-behind at bytes file k (omega arith)
+              ∙ sym (overlaid-behind at (bytes ++ more) file k (omega (arith, long)))
+        ]
+      ]
+    ])
+
+-- a write at the front of a file
+pub overlaid_first : (bytes file : List ℕ) (long : ℕ) → length bytes ≡ long → overlaid 0 bytes file ≡ bytes ++ drop long file
+overlaid_first bytes file long is =
+    let none : 0 - length file ≡ 0 = omega arith in
+    let from : 0 + length bytes ≡ long = omega (arith, is) in
+    ap (λ count. replicate {A = ℕ} count 0 ++ bytes ++ drop (0 + length bytes) file) none ∙ ap (λ count. bytes ++ drop count file) from

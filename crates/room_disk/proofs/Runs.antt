@@ -1,7 +1,6 @@
 -- Runs of calls over a disk: what a crash at any moment of them leaves.
-use Rattle.std.proofs.Common.{◌≡◌, ℕ, List, [], ◌∷◌, ◌+◌, ◌∙◌, arith, inl, inr, subst}
-use Rattle.room_disk.specs.Disk.{DiskView, Image, Images, Leaves, Quiet, Others, OnFile, Settled}
-use Rattle.room_disk.specs.Crash.{Torn, GatedTorn, overlaid}
+use Rattle.std.proofs.Common.{◌≡◌, ◌≢◌, ℕ, ◌≤◌, List, ◌∙◌, refl, sym, arith, inl, inr, subst}
+use Rattle.room_disk.specs.Disk.{DiskView, Image, Images, IsDisk, EachSince, Leaves, Quiet, Others, OthersThan, OthersLeft, OnFile, Settled}
 
 -- a run that adds no image
 pub leaves_none : (old new : DiskView) (P : Image → Type 0) → Quiet old new → Leaves old new P
@@ -28,17 +27,58 @@ leaves_then old mid new P first second = record {
 pub leaves_quiet : (old mid new : DiskView) (P : Image → Type 0) → Leaves old mid P → Quiet mid new → Leaves old new P
 leaves_quiet old mid new P run quiet = leaves_then old mid new P run (leaves_none mid new P quiet)
 
--- what a write to a settled file leaves
-pub write_leaves : (old new : DiskView) (file at : ℕ) (bytes : List ℕ)
-    → Leaves old new (Images new) → Others file old new
-    → ((after : List ℕ) → new.leaves file after → (before : List ℕ) × old.leaves file before × Torn at bytes before after)
-    → Settled old file → Leaves old new (OnFile file (Torn at bytes (old.reads file)) old)
-write_leaves old new file at bytes run others torn settled =
-    leaves_weaker old new (Images new) (OnFile file (Torn at bytes (old.reads file)) old) run (λ image now. record {
-      this = (let cut = torn (image file) (now file) in
-          let P : List ℕ → Type 0 = λ before. Torn at bytes before (image file) in subst P (settled cut.0 cut.1) cut.2);
-      others = λ other different. others.leaves other (image other) different (now other);
-    })
+-- ---- every image since
+
+-- an image since an earlier moment has P, where those before the run do
+pub each_since : (old new : DiskView) (moment : ℕ) (P : Image → Type 0) → Leaves old new P → moment ≤ old.moment
+    → EachSince old moment P → EachSince new moment P
+each_since old new moment P run early before image left = elim (run.each moment image early left) [
+  | inl was ↦ before image was
+  | inr now ↦ now
+]
+
+-- as the run begins, the images are those of now
+pub since_now : (disk : DiskView) (P : Image → Type 0) → IsDisk disk → ((image : Image) → Images disk image → P image)
+    → EachSince disk disk.moment P
+since_now disk P is_disk now image left = now image (is_disk.only_now image left)
+
+-- from the beginning of a run on
+pub run_since : (old new : DiskView) (P : Image → Type 0) → IsDisk old → Leaves old new P
+    → ((image : Image) → Images old image → P image) → EachSince new old.moment P
+run_since old new P is_disk run now = each_since old new old.moment P run (omega arith) (since_now old P is_disk now)
+
+-- a crash now leaves one of the images since
+pub now_is_since : (disk : DiskView) (moment : ℕ) (P : Image → Type 0) → IsDisk disk → moment ≤ disk.moment
+    → EachSince disk moment P → (image : Image) → Images disk image → P image
+now_is_since disk moment P is_disk early each image now = each image (is_disk.counts_now moment image early now)
+
+-- ---- calls that change nothing
+
+pub quiet_none : (disk : DiskView) → Quiet disk disk
+quiet_none disk = record {
+  reads = λ file. refl;
+  leaves = λ file bytes left. left;
+  later = omega arith;
+  since = λ moment image early left. left;
+}
+
+pub quiet_then : (old mid new : DiskView) → Quiet old mid → Quiet mid new → Quiet old new
+quiet_then old mid new first second = record {
+  reads = λ file. second.reads file ∙ first.reads file;
+  leaves = λ file bytes left. first.leaves file bytes (second.leaves file bytes left);
+  later = omega (arith, first.later, second.later);
+  since = λ moment image early left. first.since moment image early (second.since moment image (omega (arith, early, first.later)) left);
+}
+
+-- a call that adds no image before a run
+pub quiet_leaves : (old mid new : DiskView) (P : Image → Type 0) → Quiet old mid → Leaves mid new P → Leaves old new P
+quiet_leaves old mid new P quiet run = leaves_then old mid new P (leaves_none old mid P quiet) run
+
+-- nothing comes to be pending
+pub settled_quiet : (old new : DiskView) (file : ℕ) → Quiet old new → Settled old file → Settled new file
+settled_quiet old new file quiet settled bytes left = settled bytes (quiet.leaves file bytes left) ∙ sym (quiet.reads file)
+
+-- ---- calls on one file
 
 -- another file's images stay
 pub others_then : (file : ℕ) (old mid new : DiskView) → Others file old mid → Others file mid new → Others file old new
@@ -53,6 +93,58 @@ others_quiet file old new quiet = record {
   leaves = λ other bytes different left. quiet.leaves other bytes left;
 }
 
+pub others_none : (file : ℕ) (disk : DiskView) → Others file disk disk
+others_none file disk = others_quiet file disk disk (quiet_none disk)
+
+-- a call on another file leaves nothing pending on this one
+pub settled_others : (file other : ℕ) (old new : DiskView) → other ≢ file → Others file old new → Settled old other → Settled new other
+settled_others file other old new apart others settled bytes left =
+    settled bytes (others.leaves other bytes apart left) ∙ sym (others.reads other apart)
+
+-- ---- several files
+
+pub others_than : (IsOne : ℕ → Type 0) (file : ℕ) (old new : DiskView) → IsOne file → Others file old new → OthersThan IsOne old new
+others_than IsOne file old new is_one others = record {
+  reads = λ other not. others.reads other (λ same. not (subst IsOne (sym same) is_one));
+  leaves = λ other bytes not left. others.leaves other bytes (λ same. not (subst IsOne (sym same) is_one)) left;
+}
+
+pub others_of_one : (file : ℕ) (old new : DiskView) → OthersThan (λ other. other ≡ file) old new → Others file old new
+others_of_one file old new others = record { reads = others.reads; leaves = others.leaves }
+
+pub others_than_quiet : (IsOne : ℕ → Type 0) (old new : DiskView) → Quiet old new → OthersThan IsOne old new
+others_than_quiet IsOne old new quiet = record {
+  reads = λ other not. quiet.reads other;
+  leaves = λ other bytes not left. quiet.leaves other bytes left;
+}
+
+pub others_than_then : (IsOne : ℕ → Type 0) (old mid new : DiskView) → OthersThan IsOne old mid → OthersThan IsOne mid new → OthersThan IsOne old new
+others_than_then IsOne old mid new first second = record {
+  reads = λ other not. second.reads other not ∙ first.reads other not;
+  leaves = λ other bytes not left. first.leaves other bytes not (second.leaves other bytes not left);
+}
+
+pub settled_others_than : (IsOne : ℕ → Type 0) (other : ℕ) (old new : DiskView) → ¬ IsOne other → OthersThan IsOne old new → Settled old other → Settled new other
+settled_others_than IsOne other old new not others settled bytes left =
+    settled bytes (others.leaves other bytes not left) ∙ sym (others.reads other not)
+
+-- at every moment of a run on one of the files the others are as they were left
+pub others_left : (IsOne : ℕ → Type 0) (file : ℕ) (P : List ℕ → Type 0) (old new : DiskView) → IsOne file
+    → Leaves old new (OnFile file P old) → Leaves old new (OthersLeft IsOne old)
+others_left IsOne file P old new is_one run =
+    leaves_weaker old new (OnFile file P old) (OthersLeft IsOne old) run
+    (λ image on other not. on.others other (λ same. not (subst IsOne (sym same) is_one)))
+
+-- and so they are in a later part of it
+pub others_left_then : (IsOne : ℕ → Type 0) (old mid new : DiskView) → OthersThan IsOne old mid
+    → Leaves old mid (OthersLeft IsOne old) → Leaves mid new (OthersLeft IsOne mid) → Leaves old new (OthersLeft IsOne old)
+others_left_then IsOne old mid new others first second =
+    leaves_then old mid new (OthersLeft IsOne old) first
+    (leaves_weaker mid new (OthersLeft IsOne mid) (OthersLeft IsOne old) second
+    (λ image left other not. others.leaves other (image other) not (left other not)))
+
+-- ---- an image in a later part of a run
+
 -- an image in a later part of a run, told of its beginning
 pub on_file_then : (file : ℕ) (P Q : List ℕ → Type 0) (old mid : DiskView) → Others file old mid
     → ((bytes : List ℕ) → P bytes → Q bytes) → (image : Image) → OnFile file P mid image → OnFile file Q old image
@@ -60,21 +152,6 @@ on_file_then file P Q old mid others weaker image now = record {
   this = weaker (image file) now.this;
   others = λ other different. others.leaves other (image other) different (now.others other different);
 }
-
--- the two writes of a gated write
-pub gated_leaves : (old mid new : DiskView) (file at letter : ℕ) (rest : List ℕ) → Others file old mid
-    → mid.reads file ≡ overlaid (at + 1) rest (old.reads file)
-    → Leaves old mid (OnFile file (Torn (at + 1) rest (old.reads file)) old)
-    → Leaves mid new (OnFile file (Torn at (letter ∷ []) (mid.reads file)) mid)
-    → Leaves old new (OnFile file (GatedTorn at letter rest (old.reads file)) old)
-gated_leaves old mid new file at letter rest others written first second =
-    let P : List ℕ → Type 0 = GatedTorn at letter rest (old.reads file) in
-    leaves_then old mid new (OnFile file P old)
-    (leaves_weaker old mid (OnFile file (Torn (at + 1) rest (old.reads file)) old) (OnFile file P old) first
-    (λ image now. record { this = inl now.this; others = now.others }))
-    (leaves_weaker mid new (OnFile file (Torn at (letter ∷ []) (mid.reads file)) mid) (OnFile file P old) second
-    (on_file_then file (Torn at (letter ∷ []) (mid.reads file)) P old mid others
-    (λ bytes torn. let Q : List ℕ → Type 0 = λ before. Torn at (letter ∷ []) before bytes in inr (subst Q written torn))))
 
 -- a weaker word of the file
 pub on_file_weaker : (file : ℕ) (P Q : List ℕ → Type 0) (old new : DiskView) → Leaves old new (OnFile file P old)

@@ -24,9 +24,9 @@ pub record DiskView : Type 1 where
 abbrev pub Images : DiskView → Image → Type 0
 Images disk image = (file : ℕ) → disk.leaves file (image file)
 
--- what a crash at some moment since might have left
-abbrev pub ImagesSince : DiskView → ℕ → Image → Type 0
-ImagesSince disk moment image = disk.since moment image
+-- each image that a crash at that moment or a later one might have left has P
+abbrev pub EachSince : DiskView → ℕ → (Image → Type 0) → Type 0
+EachSince disk moment P = (image : Image) → disk.since moment image → P image
 
 -- What makes it a disk: an image now is one since an earlier moment, since now there is no other, and what
 -- it reads is one of its images.
@@ -52,6 +52,16 @@ pub record Others (file : ℕ) (old new : DiskView) : Type 0 where
   pub reads : (other : ℕ) → other ≢ file → new.reads other ≡ old.reads other
   pub leaves : (other : ℕ) (bytes : List ℕ) → other ≢ file → new.leaves other bytes → old.leaves other bytes
 
+-- the same of each file that isn't one of these
+pub record OthersThan (IsOne : ℕ → Type 0) (old new : DiskView) : Type 0 where
+  pub reads : (other : ℕ) → ¬ IsOne other → new.reads other ≡ old.reads other
+  pub leaves : (other : ℕ) (bytes : List ℕ) → ¬ IsOne other
+      → new.leaves other bytes → old.leaves other bytes
+
+-- in the image each file that isn't one of these is as a crash might have left it before
+abbrev pub OthersLeft : (ℕ → Type 0) → DiskView → Image → Type 0
+OthersLeft IsOne old image = (other : ℕ) → ¬ IsOne other → old.leaves other (image other)
+
 -- P holds of the file in the image, and each other file is as a crash might have left it before
 pub record OnFile (file : ℕ) (P : List ℕ → Type 0) (old : DiskView) (image : Image) : Type 0 where
   pub this : P (image file)
@@ -65,3 +75,9 @@ Settled disk file = (bytes : List ℕ) → disk.leaves file bytes → bytes ≡ 
 pub record FileCause {T E : Type 0} (file : ℕ) (old new : DiskView) (answer : Result T E) : Type 0 where
   pub later : (other : ℕ) → old.faults other ≤ new.faults other
   pub cause : OnErr answer (Rose (old.faults file) (new.faults file))
+
+-- No count falls, and where the answer is that the disk failed, the count of this file rose: `failed` says
+-- that it is, as `result ≡ Err faults.Failed`, where there are other errors.
+pub record FaultCause (file : ℕ) (old new : DiskView) (failed : Type 0) : Type 0 where
+  pub later : (other : ℕ) → old.faults other ≤ new.faults other
+  pub cause : failed → Rose (old.faults file) (new.faults file)

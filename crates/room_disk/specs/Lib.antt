@@ -10,3 +10,4 @@ pub mod Memory
 pub mod Past
 pub mod Rebuilding
 pub mod Untold
+pub mod Writing

@@ -19,9 +19,6 @@ const TRIES: u32 = 64;
 /// The last place that a file of the system can have.
 const MAX_OFFSET: u64 = i64::MAX as u64;
 
-/// The number of bytes that are read at a time.
-const PART: usize = 16_384;
-
 /// A folder of the system as a disk: `journal.0`, `journal.1` and `cart.001` to `cart.256` are its files 0
 /// to 257. It tells nothing of their bytes. A file that isn't there is empty, and only a write makes one.
 /// Files above 257 have no name, so every call on them fails.
@@ -148,7 +145,6 @@ impl<R: Files<File = File>> FolderStore<R> {
     fn find_and_read(&mut self, file: u32, at: u64, into: &mut [u8]) -> Result<u64, Failed>
         ensures faults { self.new ≡ self.old }
         ensures within { IfOk result (λ count. count ≤ length into.old) }
-        ensures rest { IfOk result (λ count. drop count into.new ≡ drop count into.old) }
     {
         self.open(file, false)?;
         match self.opened.get(&file) {
@@ -241,13 +237,12 @@ fn len(file: &File) -> Result<u64, Failed> {
 
 // Reads on until the room is full or the file ends.
 fn read(file: &File, at: u64, into: &mut [u8]) -> Result<u64, Failed>
-    ensures within { IfOk result (λ count. count ≤ length into.old) }
-    ensures rest { IfOk result (λ count. drop count into.new ≡ drop count into.old) }
+    ensures { IfOk result (λ count. count ≤ length into.old) }
 {
     let mut done = 0;
     while done < into.len() {
         let count = match at.checked_add(done as u64) {
-            Some(next) if next <= MAX_OFFSET => read_part(file, next, &mut into[done..])?,
+            Some(next) if next <= MAX_OFFSET => read_once(file, next, &mut into[done..])?,
             _ => 0,
         };
         if count == 0 {
@@ -258,23 +253,11 @@ fn read(file: &File, at: u64, into: &mut [u8]) -> Result<u64, Failed>
     Ok(done as u64)
 }
 
-// What stands behind the bytes read is left as it was, which a call of the system doesn't promise.
-fn read_part(file: &File, at: u64, into: &mut [u8]) -> Result<usize, Failed>
-    ensures within { IfOk result (λ count. count ≤ length into.old) }
-    ensures rest { IfOk result (λ count. drop count into.new ≡ drop count into.old) }
-{
-    let mut part = [0; PART];
-    let most = into.len().min(PART);
-    let count = read_once(file, at, &mut part[..most])?;
-    into[..count].copy_from_slice(&part[..count]);
-    Ok(count)
-}
-
-fn read_once(file: &File, at: u64, part: &mut [u8]) -> Result<usize, Failed>
-    ensures { IfOk result (λ count. count ≤ length part.old) }
+fn read_once(file: &File, at: u64, into: &mut [u8]) -> Result<usize, Failed>
+    ensures { IfOk result (λ count. count ≤ length into.old) }
 {
     for _ in 0..TRIES {
-        match file.read_at(part, at) {
+        match file.read_at(into, at) {
             Ok(count) => return Ok(count),
             Err(fault) if fault.kind() == ErrorKind::Interrupted => {}
             Err(_) => break,

@@ -15,7 +15,10 @@ mod rebuilding;
 mod store;
 
 pub use folder_store::FolderStore;
-pub use gate::{write_gated, write_synced};
+pub use gate::{
+    cut_unsynced, open_gate, write_anew, write_gated, write_parts, write_parts_gated, write_synced,
+    write_unsynced,
+};
 pub use mem_store::MemStore;
 pub use store::Store;
 

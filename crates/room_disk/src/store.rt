@@ -23,14 +23,15 @@ pub trait Store {
     /// file ends.
     fn read_at(&mut self, file: u32, at: u64, into: &mut [u8]) -> Result<u64, Failed>
         ensures within { IfOk result (λ count. count ≤ length into.old) }
-        ensures rest { IfOk result (λ count. drop count into.new ≡ drop count into.old) }
         ensures cause { FileCause file (view self.old) (view self.new) result }
         ensures tells { (view self.new).tells ≡ (view self.old).tells }
         ensures quiet { Told (view self.old).tells (Quiet (view self.old) (view self.new)) }
         ensures count { Told (view self.old).tells (IfOk result (λ count.
             count ≡ min (length into.old) (length ((view self.old).reads file) - at))) }
         ensures given { Told (view self.old).tells (IfOk result (λ count.
-            take count into.new ≡ take count (drop at ((view self.old).reads file)))) };
+            take count into.new ≡ take count (drop at ((view self.old).reads file)))) }
+        ensures rest { Told (view self.old).tells
+            (IfOk result (λ count. drop count into.new ≡ drop count into.old)) };
 
     /// Writes the bytes from `at` on. Where `at` is past the file's end, the bytes between are zeros.
     /// A write past the greatest length fails.

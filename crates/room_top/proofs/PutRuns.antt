@@ -3,8 +3,7 @@ use Rattle.std.proofs.Common.{◌≡◌, ◌∙◌, ◌+◌, ◌≤◌, ℕ, Lis
 use Rattle.std.proofs.lemmas.Grind.{div_ceil_times}
 use Rattle.room_base.specs.Outside.{SourceView, ClockView}
 use Rattle.room_disk.specs.Disk.{DiskView, Settled, Quiet, Others, Leaves, OnFile}
-use Rattle.room_disk.proofs.Runs.{leaves_none, leaves_then, leaves_weaker, on_file_then, others_quiet, others_then}
-use Rattle.volume_store.proofs.Walking.{quiet_then}
+use Rattle.room_disk.proofs.Runs.{leaves_none, leaves_then, leaves_weaker, on_file_then, others_quiet, others_then, quiet_then}
 use Rattle.volume_block.specs.Chunks.{ChunkText}
 use Rattle.volume_block.specs.declared.label.Label.{Label}
 use Rattle.volume_store.specs.Committed.{CommittedFile, Committed}

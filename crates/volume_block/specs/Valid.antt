@@ -17,6 +17,10 @@ IsVolid volid = (1 ≤ volid) × (volid < 2 ^ 64)
 abbrev pub IsNumber : ℕ → Type 0
 IsNumber number = (1 ≤ number) × (number < 2 ^ 64)
 
+-- the volumes with numbers from 2^63 on are raw
+abbrev pub IsRaw : Label → Type 0
+IsRaw label = 2 ^ 63 ≤ label.volid.0
+
 -- the fields are in their ranges
 pub record IsLabel (label : Label) : Type 0 where
   pub volid : IsVolid label.volid.0

@@ -1,3 +1,6 @@
+ghost use Rattle.std.specs.Prelude.{◌↔◌, IsTrue};
+ghost use Rattle.volume_block.specs.Valid.{IsRaw};
+
 use room_base::{Cart, Moment, Volid};
 
 /// There are so many cartridges.
@@ -10,6 +13,9 @@ pub const MIN_CAPACITY: u32 = 67;
 /// The most blocks that a volume may have.
 pub const MAX_CAPACITY: u32 = 1_000_000;
 
+/// Raw volumes have numbers from 2^63 on.
+pub const FIRST_RAW_VOLID: u64 = 1 << 63;
+
 /// What a volume's label says. The bytes of `pool` behind its first `pool_length` are zero.
 #[derive(Clone, Copy, Debug, PartialEq, Eq)]
 pub struct Label {
@@ -21,4 +27,13 @@ pub struct Label {
     pub made: Moment,
     pub pool_length: u8,
     pub pool: [u8; 64],
+}
+
+impl Label {
+    /// Whether the volume is raw: it holds files of bytes, and no save sets.
+    pub fn is_raw(&self) -> bool
+        ensures { IsTrue result ↔ IsRaw self.now }
+    {
+        self.volid.0 >= FIRST_RAW_VOLID
+    }
 }

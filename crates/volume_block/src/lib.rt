@@ -18,7 +18,7 @@ pub use chunks::next_chunk;
 pub use decode::{decode_block, decode_label};
 pub use encode::{encode_label, encode_mark, seal_data, write_chunk_head};
 pub use joining::{append_chunks, chunk_bytes};
-pub use label::{Label, MAX_CAPACITY, MAX_CART, MIN_CAPACITY};
+pub use label::{FIRST_RAW_VOLID, Label, MAX_CAPACITY, MAX_CART, MIN_CAPACITY};
 pub use laws::{joined_chunks, one_block, one_list_of_chunks};
 pub use layout::{CHUNK_HEAD_SIZE, PAYLOAD_START};
 

@@ -7,12 +7,12 @@ use Rattle.volume_block.specs.Valid.{IsVolid, mark_text, data_text}
 use Rattle.volume_block.specs.Region.{IsSealed, AreBlocks, blocks_text, closed_block}
 use Rattle.volume_block.proofs.Lengths.{length-mark_text, length-data_text, length-blocks_text}
 use Rattle.volume_block.specs.declared.label.Label.{Label}
-use Rattle.room_disk.specs.Crash.{overlaid, GatedTorn}
+use Rattle.room_disk.specs.Crash.{overlaid, Overlays, GatedTorn}
 use Rattle.room_disk.proofs.Overlay.{padded, length-padded, length-overlaid, overlaid-before, letter_whole}
 use Rattle.volume_store.specs.Committed.{block_at, kind_byte_at, Whole, AreDataPlaces, CommittedFile, Closed, FilesFrom, Committed, Labelled}
 use Rattle.volume_store.proofs.Files.{closed_inside, closed_byte, volume_then, volume_kept}
 use Rattle.volume_store.proofs.Regions.{opened_region}
-use Rattle.volume_store.specs.Writes.{added_file, opened, with_file, IsWholeOrAbsent}
+use Rattle.volume_store.specs.Writes.{added_file, opened, with_file, IsWholeOrAbsent, AddsFile, MayAddFile}
 use Rattle.volume_store.proofs.Blocks.{SameBelow, block_behind, byte_behind}
 
 -- data blocks that stand behind so many bytes are data places
@@ -138,3 +138,20 @@ committed_torn old new region rest label files mark blocks held sealed is (inr t
           })
           (omega (arith, torn.no_shorter, long)) closed)
     ]
+
+-- ---- a commit
+
+pub adds_file : (label : Label) (mark : ℕ) (region rest : List ℕ) → opened region ≡ 0x46 ∷ rest → (old new : List ℕ)
+    → Overlays (4096 * mark) (0x46 ∷ rest) old new → AddsFile label mark region old new
+adds_file label mark region rest opens old new is =
+    let written : new ≡ overlaid (4096 * mark) (opened region) old =
+    is ∙ ap (λ text. overlaid (4096 * mark) text old) (sym opens) in
+    record {
+      written = written;
+      added = λ files blocks sealed held. committed_more old new region label files mark blocks held sealed written;
+    }
+
+pub may_add_file : (label : Label) (mark : ℕ) (region rest : List ℕ) → opened region ≡ 0x46 ∷ rest → (old new : List ℕ)
+    → GatedTorn (4096 * mark) 0x46 rest old new → MayAddFile label mark region old new
+may_add_file label mark region rest opens old new torn = λ files blocks sealed held.
+    committed_torn old new region rest label files mark blocks held sealed opens torn

@@ -1,6 +1,7 @@
 -- What was read of a file, and what it says of its blocks.
-use Rattle.std.proofs.Common.{◌≡◌, ◌≢◌, ℕ, ◌+◌, ◌-◌, ◌*◌, ◌<◌, List, length, take, drop, min, get_or, refl, sym, ap, ◌∙◌, arith, inl, inr}
-use Rattle.std.proofs.lemmas.List.{length-take, length-drop, take_min, get_or-take, get_or-drop}
+use Rattle.std.proofs.Common.{◌≡◌, ◌≢◌, ℕ, ◌+◌, ◌-◌, ◌*◌, ◌<◌, ◌≤◌, List, [], length, take, drop, min, get_or, refl, sym, ap, ◌∙◌, arith, inl, inr}
+use Rattle.std.proofs.lemmas.List.{length-take, length-drop, take_min, drop_all, get_or-take, get_or-drop, drop-take, take-take, drop-drop}
+use Rattle.std.proofs.lemmas.Grind.{common_steps}
 use Rattle.volume_block.specs.Valid.{ValidBlock}
 use Rattle.volume_block.specs.Why.{Why, volid_in}
 use Rattle.volume_block.specs.declared.block.Block.{Block}
@@ -15,15 +16,39 @@ use Rattle.volume_store.specs.Reads.{IsBad, IsBadLabel, FindsLabel, Finds}
 use Rattle.volume_store.specs.declared.label.Found.{Found}
 use Rattle.volume_store.specs.declared.label.Found.TheVariants as found
 
--- as many bytes as there are, of 4,096
-front_of : (at count : ℕ) (file : List ℕ) → count ≡ min 4096 (length file - at) → take count (drop at file) ≡ take 4096 (drop at file)
-front_of at count file is =
-    ap (λ (n : ℕ). take n (drop at file)) (is ∙ ap (min 4096) (sym (length-drop at file))) ∙ take_min 4096 (drop at file)
+-- a part of a part of a file
+part_of_part : (at size from count : ℕ) (file : List ℕ) → from + count ≤ size
+    → take count (drop from (take size (drop at file))) ≡ take count (drop (at + from) file)
+part_of_part at size from count file inside =
+    let split : size ≡ from + (size - from) = omega (arith, inside) in
+    ap (λ (n : ℕ). take count (drop from (take n (drop at file)))) split
+    ∙ ap (take count) (drop-take from (size - from) (drop at file))
+    ∙ take-take count (size - from) (drop from (drop at file)) (omega (arith, inside))
+    ∙ ap (take count) (drop-drop from at file)
 
-pub block_read : (number count : ℕ) (file into : List ℕ) → count ≡ min 4096 (length file - 4096 * number)
-    → take count into ≡ take count (drop (4096 * number) file) → take count into ≡ block_at file number
+-- as many bytes as there are, of those that there is room for
+pub front_of : (at count size : ℕ) (file into : List ℕ) → count ≡ min size (length file - at)
+    → take count into ≡ take count (drop at file) → take count into ≡ take size (drop at file)
+front_of at count size file into is read =
+    read ∙ ap (λ (n : ℕ). take n (drop at file)) (is ∙ ap (min size) (sym (length-drop at file))) ∙ take_min size (drop at file)
+
+-- there is nothing behind the end of a file
+pub past_all : (at size : ℕ) (file : List ℕ) → length file ≤ at → [] ≡ take size (drop at file)
+past_all at size file past = sym (ap (take size) (drop_all at file past) ∙ grind (arith, common_steps))
+
+pub front_is_block : (number count size : ℕ) (file into : List ℕ) → size ≡ 4096
+    → take count into ≡ take size (drop (4096 * number) file) → take count into ≡ block_at file number
 unfolding block_at
-block_read number count file into is read = read ∙ front_of (4096 * number) count file is
+front_is_block number count size file into whole is = is ∙ ap (λ (n : ℕ). take n (drop (4096 * number) file)) whole
+
+-- a block of what was read
+pub block_of_blocks : (first size k : ℕ) (file read : List ℕ) → read ≡ take size (drop (4096 * first) file) → 4096 * k + 4096 ≤ size
+    → block_at read k ≡ block_at file (first + k)
+unfolding block_at
+block_of_blocks first size k file read is inside =
+    ap (λ (bytes : List ℕ). take 4096 (drop (4096 * k) bytes)) is
+    ∙ part_of_part (4096 * first) size (4096 * k) 4096 file inside
+    ∙ ap (λ (n : ℕ). take 4096 (drop n file)) (let same : 4096 * first + 4096 * k ≡ 4096 * (first + k) = omega arith in same)
 
 -- a block of which bytes are missing isn't valid
 pub short_block : (block : List ℕ) (volid number : ℕ) → length block < 4096 → IsBad block volid number reasons.Length
@@ -64,6 +89,12 @@ pub first_byte : (number : ℕ) (bytes : List ℕ) → get_or (block_at bytes nu
 unfolding block_at
 first_byte number bytes = get_or-take 4096 (drop (4096 * number) bytes) 0 0 (omega arith) ∙ get_or-drop (4096 * number) bytes 0 0
     ∙ ap (λ (n : ℕ). get_or bytes n 0) (let same : 4096 * number + 0 ≡ 4096 * number = omega arith in same)
+
+-- where a block has no bytes the file has ended
+pub block_none : (number : ℕ) (bytes : List ℕ) → length (block_at bytes number) ≡ 0 → length bytes ≤ 4096 * number
+unfolding block_at
+block_none number bytes none =
+    omega (arith, none, length-take 4096 (drop (4096 * number) bytes), length-drop (4096 * number) bytes)
 
 block_length : (bytes : List ℕ) → length (block_at bytes 0) ≡ min 4096 (length bytes)
 unfolding block_at

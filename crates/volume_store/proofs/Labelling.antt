@@ -7,10 +7,11 @@ use Rattle.volume_block.specs.Valid.{IsLabel, label_text}
 use Rattle.volume_block.specs.Region.{closed_block}
 use Rattle.volume_block.specs.declared.label.Label.{Label}
 use Rattle.volume_block.proofs.Lengths.{length-label_text, length-closed_block}
-use Rattle.room_disk.specs.Crash.{overlaid, Torn, GatedTorn}
+use Rattle.room_disk.specs.Crash.{overlaid, Overlays, Torn, GatedTorn}
+use Rattle.room_disk.specs.Writing.{Then, TornThen}
 use Rattle.room_disk.proofs.Overlay.{letter_whole}
 use Rattle.volume_store.specs.Committed.{block_at, kind_byte_at, Committed, Unlabelled}
-use Rattle.volume_store.specs.Writes.{labelled, without_files, IsOpening}
+use Rattle.volume_store.specs.Writes.{labelled, without_files, Relabels, IsOpening, IsBeingLabelled}
 use Rattle.volume_store.specs.Reads.{IsClosed}
 use Rattle.volume_store.proofs.Blocks.{block_behind, byte_behind}
 use Rattle.volume_store.proofs.Committing.{first_zero}
@@ -92,7 +93,7 @@ closing_torn old new torn =
 -- the images of opening a label
 pub opening_torn : (label : Label) (old new blocks rest : List ℕ) → IsLabel label → IsClosed old
     → blocks ≡ label_text label ++ closed_block → rest ≡ drop 1 blocks
-    → GatedTorn 0 0x4C rest old new → IsOpening label new
+    → GatedTorn 0 0x4C rest old new → Committed new Unlabelled ⊎ Committed new (without_files label)
 opening_torn label old new blocks rest allowed closed whole behind (inl torn) =
     inl (λ opens. closed.1 (sym (torn.before 0 (omega arith) closed.0) ∙ opens))
 opening_torn label old new blocks rest allowed closed whole behind (inr torn) =
@@ -104,3 +105,17 @@ opening_torn label old new blocks rest allowed closed whole behind (inr torn) =
           ∙ opens_labelled label blocks rest old (length-label_text label allowed) whole behind))
           (labelled_empty label old allowed))
     ]
+
+-- ---- closing a cartridge and opening its label
+
+pub relabels : (label : Label) (old new : List ℕ) → Then (Overlays 0 (0 ∷ [])) (Relabels label) old new → Relabels label old new
+relabels label old new both = record {
+  bytes = both.2.bytes ∙ ap (labelled label) both.1 ∙ labelled_closed label old;
+  empty = both.2.empty;
+}
+
+pub being_labelled : (label : Label) (old new : List ℕ)
+    → TornThen (Torn 0 (0 ∷ [])) (Overlays 0 (0 ∷ [])) (IsOpening label) old new → IsBeingLabelled label old new
+being_labelled label old new (inl torn) =
+    elim (closing_torn old new torn) [ inl same ↦ inl same | inr shut ↦ inr (inl shut) ]
+being_labelled label old new (inr both) = inr (both.2 (cleared old both.0 both.1))

@@ -1,5 +1,5 @@
 -- A walk over the marks of a cartridge, mark by mark.
-use Rattle.std.proofs.Common.{◌≡◌, ◌≢◌, ℕ, zero, suc, ◌+◌, ◌*◌, ◌<◌, ◌≤◌, ◌^◌, List, [], ◌∷◌, ◌++◌, length, get_or, Option, Some, None, refl, sym, ap, subst, ◌∙◌, append_assoc, arith, inl, inr}
+use Rattle.std.proofs.Common.{◌≡◌, ◌≢◌, ◌⊎◌, ℕ, zero, suc, ◌+◌, ◌*◌, ◌<◌, ◌≤◌, ◌^◌, List, [], ◌∷◌, ◌++◌, length, get_or, Option, Some, None, refl, sym, ap, subst, ◌∙◌, append_assoc, arith, inl, inr}
 use Rattle.std.proofs.lemmas.List.{append-nil, length-append}
 use Rattle.std.proofs.Math.Decide.{ℕ_discrete}
 use Rattle.volume_block.specs.Chunks.{ChunkText}
@@ -8,11 +8,10 @@ use Rattle.volume_block.specs.declared.block.Block.TheVariants as kinds
 use Rattle.volume_block.proofs.Deciding.{is_data}
 use Rattle.volume_store.specs.Committed.{block_at, DataPlace, Whole, Damaged, AreDataPlaces, CommittedFile, End, Closed, Stop, EndsAt, FilesFrom}
 use Rattle.volume_store.specs.Reads.{IsFile, IsWanted, HasWalked, WalksOver, StopsAt, IsBadMark, IsWithin, HasRange}
-use Rattle.room_disk.specs.Disk.{DiskView, Quiet}
 use Rattle.std.specs.Prelude.{MatchOption}
 use Rattle.volume_store.specs.declared.marks.FilePlace.{FilePlace}
 use Rattle.volume_store.specs.declared.marks.MarkWalk.{MarkWalk}
-use Rattle.volume_store.proofs.Finding.{first_byte}
+use Rattle.volume_store.proofs.Finding.{first_byte, block_none}
 
 -- ---- each data place is whole or damaged
 
@@ -135,6 +134,12 @@ pub ends_short : (bytes : List ℕ) (volid number : ℕ) (walk : MarkWalk) → H
 ends_short bytes volid number walk walked short =
     (walked.files, ends bytes volid number walk (Stop walk.end) walked (refl, inl short))
 
+-- at a mark that is invalid or isn't there
+pub ends_bad_or_short : (bytes : List ℕ) (volid number : ℕ) (walk : MarkWalk) → HasWalked bytes volid number walk
+    → (length (block_at bytes walk.end) ≡ 0) ⊎ IsBadMark (block_at bytes walk.end) volid walk.end → StopsAt bytes volid walk.end
+ends_bad_or_short bytes volid number walk walked (inl none) = ends_short bytes volid number walk walked (block_none walk.end bytes none)
+ends_bad_or_short bytes volid number walk walked (inr bad) = ends_bad bytes volid number walk walked bad
+
 -- ---- the numbers of a walk
 
 within_next : (place : FilePlace) (end next : ℕ) → end ≤ next → IsWithin place end → IsWithin place next
@@ -163,14 +168,4 @@ range_past count walk next number inside range counted files end this other = re
   files = omega (arith, files, end, range.files, counted.0);
   wanted = wanted_range walk.end next.end number walk.files count walk.wanted next.wanted (ℕ_discrete (walk.files + 1) number) this other
       range.end.0 counted end range.wanted;
-}
-
--- ---- calls that only read, one behind the other
-
-pub quiet_then : (old mid new : DiskView) → Quiet old mid → Quiet mid new → Quiet old new
-quiet_then old mid new first second = record {
-  reads = λ file. second.reads file ∙ first.reads file;
-  leaves = λ file bytes left. first.leaves file bytes (second.leaves file bytes left);
-  later = omega (arith, first.later, second.later);
-  since = λ moment image early seen. first.since moment image early (second.since moment image (omega (arith, early, first.later)) seen);
 }

@@ -1,6 +1,5 @@
 -- What is read of a cartridge: its label, its marks, its blocks.
-use Rattle.std.specs.Prelude.{◌≡◌, ◌≢◌, ◌⊎◌, ℕ, ◌+◌, ◌≤◌, ◌<◌, List, ◌∷◌, ◌++◌, length, slice_index, Result, Ok, Err, Option, MatchOption}
-use Rattle.room_base.specs.Faults.{Rose}
+use Rattle.std.specs.Prelude.{◌≡◌, ◌≢◌, ◌⊎◌, ℕ, ◌+◌, ◌*◌, ◌≤◌, ◌<◌, List, ◌∷◌, ◌++◌, length, slice_index, Result, Ok, Err, Option, MatchOption}
 use Rattle.room_disk.specs.Disk.{DiskView, Settled}
 use Rattle.volume_block.specs.Valid.{IsLabel, ValidBlock}
 use Rattle.volume_block.specs.Why.{Why, volid_in}
@@ -44,14 +43,11 @@ JudgesBlock block volid number (Ok read) = ValidBlock block volid number read
 JudgesBlock block volid number (Err (faults.Bad bad)) = IsBad block volid number bad.why
 JudgesBlock block volid number (Err faults.Failed) = Unit {0}
 
--- no count falls, and the disk's fault is answered only where the count of this file rose
-abbrev pub WhenReadFailed : Result Block ReadFault → Type 0 → Type 0
-WhenReadFailed (Err faults.Failed) P = P
-WhenReadFailed other P = Unit {0}
 
-pub record ReadCause (file : ℕ) (old new : DiskView) (answer : Result Block ReadFault) : Type 0 where
-  pub later : (other : ℕ) → old.faults other ≤ new.faults other
-  pub cause : WhenReadFailed answer (Rose (old.faults file) (new.faults file))
+-- of the bytes read, as far as there was room, each block is the one with its number of the file
+abbrev pub HoldsBlocks : List ℕ → ℕ → ℕ → List ℕ → Type 0
+HoldsBlocks bytes first room read =
+    (k : ℕ) → 4096 * k + 4096 ≤ room → block_at read k ≡ block_at bytes (first + k)
 
 -- ---- the label
 
@@ -90,11 +86,11 @@ pub record IsBadMark (block : List ℕ) (volid number : ℕ) : Type 0 where
   pub opens : slice_index block 0 ≡ 0x46
   pub no_mark : (count : ℕ) → ¬ ValidBlock block volid number (kinds.Mark count)
 
--- what is found at a mark place, of which these bytes are there
+-- what is found at a mark place, of which these bytes are there: where there are none it is bad
 abbrev pub FindsMark : List ℕ → ℕ → ℕ → MarkPlace → Type 0
-FindsMark block volid number places.Closed = slice_index block 0 ≢ 0x46
+FindsMark block volid number places.Closed = (0 < length block) × (slice_index block 0 ≢ 0x46)
 FindsMark block volid number (places.Open count) = ValidBlock block volid number (kinds.Mark count)
-FindsMark block volid number places.Bad = IsBadMark block volid number
+FindsMark block volid number places.Bad = (length block ≡ 0) ⊎ IsBadMark block volid number
 
 -- the mark counts as many blocks as a mark may
 abbrev pub HasCount : MarkPlace → Type 0
@@ -138,14 +134,6 @@ Walks bytes volid number (Ok walk) = WalksOver bytes volid number walk
 Walks bytes volid number (Err (walks.BadMark place)) = StopsAt bytes volid place
 Walks bytes volid number (Err walks.Failed) = Unit {0}
 
--- no count falls, and the disk's fault is answered only where the count of this file rose
-abbrev pub WhenWalkFailed : Result MarkWalk WalkFault → Type 0 → Type 0
-WhenWalkFailed (Err walks.Failed) P = P
-WhenWalkFailed other P = Unit {0}
-
-pub record WalkCause (file : ℕ) (old new : DiskView) (answer : Result MarkWalk WalkFault) : Type 0 where
-  pub later : (other : ℕ) → old.faults other ≤ new.faults other
-  pub cause : WhenWalkFailed answer (Rose (old.faults file) (new.faults file))
 
 -- the numbers of a walk that has come to a mark place are in their ranges
 abbrev pub IsWithin : FilePlace → ℕ → Type 0
@@ -166,14 +154,6 @@ Mounts bytes cart (Err (mounts.BadBlock number)) = ((number ≡ 0) × Committed 
     ⊎ ((label : Label) × ((files : List CommittedFile) × Committed bytes (Labelled label files (Stop number))))
 Mounts bytes cart (Err mounts.Failed) = Unit {0}
 
--- no count falls, and the disk's fault is answered only where the count of this file rose
-abbrev pub WhenMountFailed : Result Volume MountFault → Type 0 → Type 0
-WhenMountFailed (Err mounts.Failed) P = P
-WhenMountFailed other P = Unit {0}
-
-pub record MountCause (file : ℕ) (old new : DiskView) (answer : Result Volume MountFault) : Type 0 where
-  pub later : (other : ℕ) → old.faults other ≤ new.faults other
-  pub cause : WhenMountFailed answer (Rose (old.faults file) (new.faults file))
 
 -- nothing is pending on the file, but where the disk failed
 abbrev pub SettlesUnlessFailed : Result Volume MountFault → DiskView → ℕ → Type 0

@@ -1,10 +1,12 @@
 -- What labelling and committing write.
-use Rattle.std.specs.Prelude.{◌≡◌, ◌⊎◌, ℕ, ◌+◌, ◌≤◌, List, [], ◌∷◌, ◌++◌, length, map, drop}
+use Rattle.std.specs.Prelude.{◌≡◌, ◌⊎◌, ℕ, ◌+◌, ◌*◌, ◌≤◌, List, [], ◌∷◌, ◌++◌, length, map, drop}
 use Rattle.volume_block.specs.Chunks.{ChunkText}
 use Rattle.volume_block.specs.Valid.{label_text}
-use Rattle.volume_block.specs.Region.{closed_block}
+use Rattle.volume_block.specs.Region.{closed_block, IsSealed}
 use Rattle.volume_block.specs.declared.label.Label.{Label}
+use Rattle.room_disk.specs.Crash.{overlaid}
 use Rattle.volume_store.specs.Committed.{Whole, CommittedFile, Closed, Contents, Unlabelled, Labelled, Committed}
+use Rattle.volume_store.specs.Reads.{IsClosed}
 
 -- the file of a cartridge
 abbrev pub cart_file : ℕ → ℕ
@@ -33,6 +35,20 @@ abbrev pub IsWholeOrAbsent : Label → List CommittedFile → ℕ → List (List
 IsWholeOrAbsent label files mark blocks bytes =
     Committed bytes (Labelled label files (Closed mark)) ⊎ Committed bytes (with_file label files mark blocks)
 
+-- A commit of the region at the mark place: the bytes of the cartridge after it, and that of a volume with
+-- this label whose files end there, the region is one more.
+pub record AddsFile (label : Label) (mark : ℕ) (region old new : List ℕ) : Type 0 where
+  pub written : new ≡ overlaid (4096 * mark) (opened region) old
+  pub added : (files : List CommittedFile) (blocks : List (List ChunkText))
+      → IsSealed label.volid.0 mark blocks region → Committed old (Labelled label files (Closed mark))
+      → Committed new (with_file label files mark blocks)
+
+-- what a commit that may have been cut short leaves: the old files, or these and the new one
+abbrev pub MayAddFile : Label → ℕ → List ℕ → List ℕ → List ℕ → Type 0
+MayAddFile label mark region old new = (files : List CommittedFile) (blocks : List (List ChunkText))
+    → IsSealed label.volid.0 mark blocks region → Committed old (Labelled label files (Closed mark))
+    → IsWholeOrAbsent label files mark blocks new
+
 -- a cartridge with a new label, and what stood behind its first two blocks
 abbrev pub labelled : Label → List ℕ → List ℕ
 labelled label old = (label_text label ++ closed_block) ++ drop 8192 old
@@ -47,5 +63,10 @@ IsBeingLabelled label old bytes =
     (bytes ≡ old) ⊎ Committed bytes Unlabelled ⊎ Committed bytes (without_files label)
 
 -- while a closed cartridge gets its label it has none, or has the new label and no file
-abbrev pub IsOpening : Label → List ℕ → Type 0
-IsOpening label bytes = Committed bytes Unlabelled ⊎ Committed bytes (without_files label)
+abbrev pub IsOpening : Label → List ℕ → List ℕ → Type 0
+IsOpening label old bytes = IsClosed old → Committed bytes Unlabelled ⊎ Committed bytes (without_files label)
+
+-- the cartridge got this label, and has no file
+pub record Relabels (label : Label) (old new : List ℕ) : Type 0 where
+  pub bytes : new ≡ labelled label old
+  pub empty : Committed new (without_files label)

@@ -1,12 +1,11 @@
-ghost use Rattle.std.specs.Prelude.{◌≡◌, ◌+◌, ◌-◌, ◌<◌, ◌≤◌, [], ◌∷◌, ◌++◌, length, slice_index, IfOk, OnOk};
+ghost use Rattle.std.specs.Prelude.{◌≡◌, ◌≤◌, ◌++◌, length, slice_index, IfOk, OnOk};
 ghost use Rattle.room_base.specs.Outside.{Told};
-ghost use Rattle.room_disk.specs.Disk.{Quiet, Others, Settled, Leaves, OnFile, FileCause};
-ghost use Rattle.room_disk.specs.Crash.{overlaid, Torn};
+ghost use Rattle.room_disk.specs.Disk.{Quiet, Settled, FileCause};
+ghost use Rattle.room_disk.specs.Writing.{WritesFile};
 ghost use Rattle.volume_block.specs.Valid.{IsLabel, label_text};
 ghost use Rattle.volume_block.specs.Region.{closed_block};
-ghost use Rattle.volume_store.specs.Writes.{cart_file, IsCart, labelled, without_files, IsBeingLabelled, IsOpening};
-ghost use Rattle.volume_store.specs.Reads.{IsClosed, FindsLabel, Finds, HasAllowedLabel};
-ghost use Rattle.volume_store.specs.Committed.{Committed};
+ghost use Rattle.volume_store.specs.Writes.{cart_file, IsCart, Relabels, IsBeingLabelled, IsOpening};
+ghost use Rattle.volume_store.specs.Reads.{FindsLabel, Finds, HasAllowedLabel};
 
 use crate::reading::read_front;
 use room_base::{Cart, Failed};
@@ -77,60 +76,24 @@ fn open_label_of(bytes: &[u8]) -> Found
     }
 }
 
-/// Writes a label on its cartridge, whose files are then gone. After `Failed` the cartridge may have no
-/// label.
+/// Writes a label on its cartridge, whose files are then gone. A crash at any moment leaves the cartridge
+/// as it was, without a label, or with the new label and no file; so it may be after `Failed`.
 pub fn write_label<D: Store>(store: &mut D, label: &Label) -> Result<(), Failed>
     requires { IsLabel label.now }
-    ensures cause { FileCause (cart_file label.now.cart.0) (D.view store.old) (D.view store.new) result }
-    ensures tells { (D.view store.new).tells ≡ (D.view store.old).tells }
-    ensures others { Told (D.view store.old).tells
-        (Others (cart_file label.now.cart.0) (D.view store.old) (D.view store.new)) }
-    ensures written { Told (D.view store.old).tells (OnOk result
-        ((D.view store.new).reads (cart_file label.now.cart.0)
-        ≡ labelled label.now ((D.view store.old).reads (cart_file label.now.cart.0)))) }
-    ensures empty { Told (D.view store.old).tells (OnOk result
-        (Committed ((D.view store.new).reads (cart_file label.now.cart.0)) (without_files label.now))) }
-    ensures settled { Told (D.view store.old).tells
-        (OnOk result (Settled (D.view store.new) (cart_file label.now.cart.0))) }
-    // At every moment of the call a crash leaves the cartridge as it was, without a label, or with the
-    // new label and no file.
-    ensures moments { Told (D.view store.old).tells (Settled (D.view store.old) (cart_file label.now.cart.0)
-        → Leaves (D.view store.old) (D.view store.new) (OnFile (cart_file label.now.cart.0)
-        (IsBeingLabelled label.now ((D.view store.old).reads (cart_file label.now.cart.0))) (D.view store.old))) }
+    ensures { WritesFile (cart_file label.now.cart.0) (Relabels label.now) (IsBeingLabelled label.now)
+        (D.view store.old) (D.view store.new) result }
 {
     let file = label.cart.0 + 1;
-    close_label(store, file)?;
+    // The cartridge is closed, so that nothing on it counts.
+    write_synced(store, file, 0, &[0])?;
     open_label(store, file, label)
-}
-
-// Closes the cartridge, so that nothing on it counts.
-fn close_label<D: Store>(store: &mut D, file: u32) -> Result<(), Failed>
-    ensures cause { FileCause file (D.view store.old) (D.view store.new) result }
-    ensures tells { (D.view store.new).tells ≡ (D.view store.old).tells }
-    ensures others { Told (D.view store.old).tells (Others file (D.view store.old) (D.view store.new)) }
-    ensures written { Told (D.view store.old).tells (OnOk result
-        ((D.view store.new).reads file ≡ overlaid 0 (0 ∷ []) ((D.view store.old).reads file))) }
-    ensures settled { Told (D.view store.old).tells (OnOk result (Settled (D.view store.new) file)) }
-    ensures moments { Told (D.view store.old).tells (Settled (D.view store.old) file
-        → Leaves (D.view store.old) (D.view store.new)
-        (OnFile file (Torn 0 (0 ∷ []) ((D.view store.old).reads file)) (D.view store.old))) }
-{
-    write_synced(store, file, 0, &[0])
 }
 
 // Writes the label and a closed block behind it, and then opens the label.
 fn open_label<D: Store>(store: &mut D, file: u32, label: &Label) -> Result<(), Failed>
     requires { IsLabel label.now }
-    ensures cause { FileCause file (D.view store.old) (D.view store.new) result }
-    ensures tells { (D.view store.new).tells ≡ (D.view store.old).tells }
-    ensures others { Told (D.view store.old).tells (Others file (D.view store.old) (D.view store.new)) }
-    ensures written { Told (D.view store.old).tells (OnOk result
-        ((D.view store.new).reads file ≡ labelled label.now ((D.view store.old).reads file))) }
-    ensures settled { Told (D.view store.old).tells (OnOk result (Settled (D.view store.new) file)) }
-    ensures moments { Told (D.view store.old).tells (Settled (D.view store.old) file
-        → IsClosed ((D.view store.old).reads file)
-        → Leaves (D.view store.old) (D.view store.new)
-        (OnFile file (IsOpening label.now) (D.view store.old))) }
+    ensures { WritesFile file (Relabels label.now) (IsOpening label.now)
+        (D.view store.old) (D.view store.new) result }
 {
     let mut blocks = [0; 2 * BLOCK_SIZE];
     fill_label_blocks(label, &mut blocks);

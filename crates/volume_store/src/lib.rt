@@ -12,6 +12,8 @@ mod standing;
 pub use commit::Volume;
 pub use label::{Found, read_label, write_label};
 pub use laws::{every_cartridge_is, one_contents};
-pub use marks::{FIRST_MARK, FilePlace, MarkWalk, MountFault, WalkFault, mount, walk_marks};
-pub use reading::{BLOCK_LIMIT, ReadFault, read_block};
+pub use marks::{
+    FIRST_MARK, FilePlace, MarkPlace, MarkWalk, MountFault, WalkFault, mount, read_mark, walk_marks,
+};
+pub use reading::{ReadFault, judge_block, read_block, read_blocks};
 pub use standing::{a_file_adds_its_chunks, chunks_stand_in_files, one_chunk_stands_in_a_place};

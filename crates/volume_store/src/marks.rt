@@ -1,16 +1,18 @@
 //! Goes over the marks of a cartridge, and mounts it.
 
-ghost use Rattle.std.specs.Prelude.{◌≡◌, ◌≢◌, ◌+◌, ◌*◌, ◌-◌, ◌≤◌, ◌<◌, ◌^◌, Some, None, length, slice_index, IfOk};
+ghost use Rattle.std.specs.Prelude.{◌≡◌, ◌≢◌, ◌+◌, ◌*◌, ◌-◌, ◌≤◌, ◌<◌, ◌^◌, Some, None, Err, length, slice_index, IfOk};
 ghost use Rattle.room_base.specs.Outside.{Told};
-ghost use Rattle.room_disk.specs.Disk.{Quiet, FileCause};
+ghost use Rattle.room_disk.specs.Disk.{Quiet, FileCause, FaultCause};
 ghost use Rattle.volume_block.specs.Valid.{IsLabel};
 ghost use Rattle.volume_store.specs.Committed.{block_at};
 ghost use Rattle.volume_store.specs.Writes.{cart_file, IsCart};
-ghost use Rattle.volume_store.specs.Reads.{FindsMark, HasCount, Walks, HasRange, WalkCause, Mounts, MountCause, SettlesUnlessFailed};
+ghost use Rattle.volume_store.specs.Reads.{FindsMark, HasCount, Walks, HasRange, Mounts, SettlesUnlessFailed};
+ghost use Rattle.volume_store.specs.declared.marks.MountFault.TheVariants as mounts;
+ghost use Rattle.volume_store.specs.declared.marks.WalkFault.TheVariants as walks;
 
 use crate::commit::Volume;
 use crate::label::{Found, read_label};
-use crate::reading::{judge, read_front};
+use crate::reading::{judge_block, read_front};
 use room_base::{Cart, Failed, Volid};
 use room_disk::Store;
 use volume_block::{BLOCK_SIZE, Block};
@@ -77,9 +79,12 @@ pub struct MarkWalk {
 
 /// What stands at a mark place.
 #[derive(Clone, Copy, Debug, PartialEq, Eq)]
-enum MarkPlace {
+pub enum MarkPlace {
+    /// The files end here.
     Closed,
+    /// A file of so many data blocks.
     Open { count: u32 },
+    /// A mark that isn't valid, or isn't there.
     Bad,
 }
 
@@ -93,7 +98,8 @@ pub const FIRST_MARK: u64 = 1;
 /// the cartridge first, so that what it finds stays.
 pub fn mount<D: Store>(store: &mut D, cart: Cart) -> Result<Volume, MountFault>
     requires { IsCart cart.0 }
-    ensures cause { MountCause (cart_file cart.0) (D.view store.old) (D.view store.new) result }
+    ensures cause { FaultCause (cart_file cart.0) (D.view store.old) (D.view store.new)
+        (result ≡ Err mounts.Failed) }
     ensures tells { (D.view store.new).tells ≡ (D.view store.old).tells }
     ensures quiet { Told (D.view store.old).tells (Quiet (D.view store.old) (D.view store.new)) }
     ensures settled { Told (D.view store.old).tells (SettlesUnlessFailed result (D.view store.new) (cart_file cart.0)) }
@@ -127,7 +133,8 @@ pub fn walk_marks<D: Store>(
     wanted: u64,
 ) -> Result<MarkWalk, WalkFault>
     requires { IsCart cart.0 }
-    ensures cause { WalkCause (cart_file cart.0) (D.view store.old) (D.view store.new) result }
+    ensures cause { FaultCause (cart_file cart.0) (D.view store.old) (D.view store.new)
+        (result ≡ Err walks.Failed) }
     ensures tells { (D.view store.new).tells ≡ (D.view store.old).tells }
     ensures quiet { Told (D.view store.old).tells (Quiet (D.view store.old) (D.view store.new)) }
     ensures range { IfOk result (λ walk. HasRange (2 ^ 52) walk) }
@@ -137,7 +144,7 @@ pub fn walk_marks<D: Store>(
     let blocks = block_count(store.len(file)?);
     let mut walk = MarkWalk::first();
     while walk.end < blocks {
-        match read_mark(store, file, volid, walk.end)? {
+        match read_mark(store, cart, volid, walk.end)? {
             MarkPlace::Closed => return Ok(walk),
             MarkPlace::Bad => return Err(WalkFault::BadMark { number: walk.end }),
             MarkPlace::Open { count } => walk = walk.past(count, wanted),
@@ -194,23 +201,23 @@ fn block_count(len: u64) -> u64
     len / size + u64::from(len % size != 0)
 }
 
-// What stands at a mark place.
-fn read_mark<D: Store>(
+/// Reads the mark place with this number of this volume.
+pub fn read_mark<D: Store>(
     store: &mut D,
-    file: u32,
+    cart: Cart,
     volid: Volid,
     number: u64,
 ) -> Result<MarkPlace, Failed>
-    requires { number < 2 ^ 52 }
-    ensures cause { FileCause file (D.view store.old) (D.view store.new) result }
+    requires { IsCart cart.0 }
+    ensures cause { FileCause (cart_file cart.0) (D.view store.old) (D.view store.new) result }
     ensures tells { (D.view store.new).tells ≡ (D.view store.old).tells }
     ensures quiet { Told (D.view store.old).tells (Quiet (D.view store.old) (D.view store.new)) }
     ensures count { IfOk result HasCount }
-    ensures found { Told (D.view store.old).tells (IfOk result
-        (FindsMark (block_at ((D.view store.old).reads file) number) volid.0 number)) }
+    ensures found { Told (D.view store.old).tells (IfOk result (FindsMark
+        (block_at ((D.view store.old).reads (cart_file cart.0)) number) volid.0 number)) }
 {
     let mut block = [0; BLOCK_SIZE];
-    let count = read_front(store, file, number, &mut block)?;
+    let count = read_front(store, cart.0 + 1, number, &mut block)?;
     Ok(mark_place_of(&block[..count], volid, number))
 }
 
@@ -220,6 +227,7 @@ fn mark_place_of(bytes: &[u8], volid: Volid, number: u64) -> MarkPlace
     ensures count { HasCount result }
 {
     match bytes {
+        [] => MarkPlace::Bad,
         [MARK_GATE, ..] => open_mark_of(bytes, volid, number),
         _ => MarkPlace::Closed,
     }
@@ -231,7 +239,7 @@ fn open_mark_of(bytes: &[u8], volid: Volid, number: u64) -> MarkPlace
     ensures found { FindsMark bytes.now volid.0 number result }
     ensures count { HasCount result }
 {
-    match judge(bytes, volid, number) {
+    match judge_block(bytes, volid, number) {
         Ok(Block::Mark { count }) => MarkPlace::Open { count },
         Ok(Block::Label(_)) => MarkPlace::Bad,
         Ok(Block::Data { .. }) => MarkPlace::Bad,

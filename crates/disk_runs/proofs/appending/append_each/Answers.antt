@@ -1,7 +1,8 @@
 use Rattle.std.proofs.Common.{◌∙◌, ◌∷◌, [], ◌<◌, get_or, length, ap, arith}
 use Rattle.std.specs.Prelude.{IsTrue}
-use Rattle.room_disk.specs.Crash.{overlaid}
+use Rattle.room_disk.specs.Crash.{overlaid, Torn}
 use Rattle.room_disk.proofs.Runs.{others_then}
+use Rattle.room_disk.proofs.Writing.{settled_moments}
 use Rattle.disk_runs.proofs.Steps.{front_more, appended_then, HasAppended}
 use Rattle.disk_runs.proofs.appending.append_each.Goals as goal
 
@@ -18,7 +19,7 @@ loop-place-preserved g c =
       omega arith,
       c.in_ok-write_synced.ensures.tells ∙ c.loop-place.invariant.1,
       λ told blank. (let told_mid : IsTrue mid.tells = rw c.loop-place.invariant.1 told in
-          c.in_ok-write_synced.ensures.written told_mid
+          c.in_ok-write_synced.ensures.whole told_mid
           ∙ ap (overlaid place (byte ∷ [])) (c.loop-place.invariant.2 told blank) ∙ front_more bytes place inside),
       λ told blank settled. (let told_mid : IsTrue mid.tells = rw c.loop-place.invariant.1 told in
           let so_far : HasAppended file bytes old mid = c.loop-place.invariant.3 told blank settled in
@@ -26,6 +27,10 @@ loop-place-preserved g c =
             settled = c.in_ok-write_synced.ensures.settled told_mid;
             others = others_then file old mid new so_far.others (c.in_ok-write_synced.ensures.others told_mid);
             moments = appended_then file bytes place byte old mid new (omega arith) so_far (c.loop-place.invariant.2 told blank)
-                (c.in_ok-write_synced.ensures.others told_mid) (c.in_ok-write_synced.ensures.moments told_mid so_far.settled);
+                (c.in_ok-write_synced.ensures.others told_mid)
+                (settled_moments file (Torn place (byte ∷ [])) mid new so_far.settled (c.in_ok-write_synced.ensures.moments told_mid));
           }),
+      λ other. omega (arith, c.loop-place.invariant.4 other, c.in_ok-write_synced.ensures.cause.later other),
+      λ told. others_then file old mid new (c.loop-place.invariant.5 told) (c.in_ok-write_synced.ensures.others (rw c.loop-place.invariant.1 told)),
+      λ told settled. c.in_ok-write_synced.ensures.settled (rw c.loop-place.invariant.1 told),
     )

@@ -1,6 +1,6 @@
-use Rattle.std.proofs.Common.{◌≡◌, ◌≤◌, [], length, take}
+use Rattle.std.proofs.Common.{◌≡◌, ◌≤◌, ℕ, [], length, take}
 use Rattle.room_base.specs.Outside.{Told}
-use Rattle.room_disk.specs.Disk.{Settled}
+use Rattle.room_disk.specs.Disk.{Settled, Others}
 use Rattle.disk_runs.proofs.Steps.{HasAppended}
 use Rattle.disk_runs.proofs.appending.append_each.Given as goal
 
@@ -13,3 +13,7 @@ invariant-loop-place g l =
     × Told (g.D.Store.view l.initial.store).tells ((g.D.Store.view l.initial.store).reads l.file ≡ []
     → Settled (g.D.Store.view l.initial.store) l.file
     → HasAppended l.file l.bytes (g.D.Store.view l.initial.store) (g.D.Store.view l.store))
+    × ((other : ℕ) → (g.D.Store.view l.initial.store).faults other ≤ (g.D.Store.view l.store).faults other)
+    × Told (g.D.Store.view l.initial.store).tells (Others l.file (g.D.Store.view l.initial.store) (g.D.Store.view l.store))
+    × Told (g.D.Store.view l.initial.store).tells (Settled (g.D.Store.view l.initial.store) l.file
+    → Settled (g.D.Store.view l.store) l.file)

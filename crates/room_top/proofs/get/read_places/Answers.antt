@@ -4,7 +4,7 @@ use Rattle.volume_block.specs.Chunks.{ChunkText}
 use Rattle.volume_block.specs.Valid.{HoldsChunks}
 use Rattle.volume_store.specs.Committed.{block_at}
 use Rattle.volume_store.specs.Writes.{cart_file}
-use Rattle.volume_store.proofs.Walking.{quiet_then}
+use Rattle.room_disk.proofs.Runs.{quiet_then}
 use Rattle.room_top.specs.Stages.{DataCause, IsDataRead, GivesPlaces}
 use Rattle.room_top.proofs.GetRuns.{read_more, data_later, data_given}
 use Rattle.room_top.proofs.get.read_places.Goals as goal

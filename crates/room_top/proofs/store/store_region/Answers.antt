@@ -3,8 +3,9 @@ use Rattle.std.specs.Prelude.{OnOk}
 use Rattle.std.proofs.lemmas.Result.{IfOk-weaker}
 use Rattle.room_disk.specs.Disk.{Settled, Leaves, OnFile}
 use Rattle.room_disk.proofs.Runs.{on_file_weaker}
-use Rattle.volume_store.specs.Committed.{Committed, Labelled, Closed}
-use Rattle.volume_store.specs.Writes.{cart_file, with_file, IsWholeOrAbsent}
+use Rattle.room_disk.proofs.Writing.{settled_moments}
+use Rattle.volume_store.specs.Committed.{Committed}
+use Rattle.volume_store.specs.Writes.{cart_file, with_file, AddsFile, MayAddFile}
 use Rattle.room_top.specs.Put.{HasOneFileMore, IsPut, IsFirstFile}
 use Rattle.room_top.proofs.PutRuns.{first_is_one_more, next_is_one_more, first_is_put, next_is_put}
 use Rattle.room_top.proofs.store.store_region.Goals as goal
@@ -52,11 +53,12 @@ returns-in-Next-clause-stored g c = λ told clock blocks bytes sealed joined sit
     let known = rw c.in-Next.is at site in
     let joins = rw c.in-Next.is at joined in
     let files = known.0 in
-    let H : ℕ → Type 0 = λ (k : ℕ). Committed (old.reads (cart_file k)) (Labelled label files (Closed mark)) in
-    let P : ℕ → Type 0 = λ (k : ℕ). OnOk c.commit.result (Committed (new.reads (cart_file k)) (with_file label files mark blocks)) in
-    rw c.in-Next.is (IfOk-weaker c.commit.result (λ _. Committed (new.reads (cart_file cart)) (with_file label files mark blocks)) (λ _. HasOneFileMore clock cart bytes before number (new.reads (cart_file cart)))
-    (λ _ stored. next_is_one_more clock cart mark number bytes before (new.reads (cart_file cart)) label files blocks joins known.1 known.2 stored)
-    (subst P ready.0 (c.commit.ensures.added told files blocks (rw c.in-Next.is at sealed) (subst H (sym ready.0) known.1.1))))
+    let region = c.args.region.now in
+    let P : ℕ → Type 0 = λ (k : ℕ). OnOk c.commit.result (AddsFile label mark region (old.reads (cart_file k)) (new.reads (cart_file k))) in
+    rw c.in-Next.is (IfOk-weaker c.commit.result (λ _. AddsFile label mark region before (new.reads (cart_file cart))) (λ _. HasOneFileMore clock cart bytes before number (new.reads (cart_file cart)))
+    (λ _ adds. next_is_one_more clock cart mark number bytes before (new.reads (cart_file cart)) label files blocks joins known.1 known.2
+    (adds.added files blocks (rw c.in-Next.is at sealed) known.1.1))
+    (subst P ready.0 (c.commit.ensures.writes.whole told)))
 
 pub returns-in-Next-clause-moments : goal.returns-in-Next-clause-moments
 returns-in-Next-clause-moments g c = λ told clock blocks bytes sealed joined site settled.
@@ -73,8 +75,9 @@ returns-in-Next-clause-moments g c = λ told clock blocks bytes sealed joined si
     let joins = rw c.in-Next.is at joined in
     let files = known.0 in
     let S : ℕ → Type 0 = λ (k : ℕ). Settled old (cart_file k) in
-    let H : ℕ → Type 0 = λ (k : ℕ). Committed (old.reads (cart_file k)) (Labelled label files (Closed mark)) in
-    let P : ℕ → Type 0 = λ (k : ℕ). Leaves old new (OnFile (cart_file k) (IsWholeOrAbsent label files mark blocks) old) in
-    on_file_weaker (cart_file cart) (IsWholeOrAbsent label files mark blocks) (IsPut clock cart bytes before) old new
-    (subst P ready.0 (c.commit.ensures.moments told files blocks (rw c.in-Next.is at sealed) (subst H (sym ready.0) known.1.1) (subst S (sym ready.0) settled)))
-    (λ disk kept. next_is_put clock cart mark number bytes before disk label files blocks joins known.1 known.2 kept)
+    let May = MayAddFile label mark c.args.region.now in
+    let P : ℕ → Type 0 = λ (k : ℕ). Leaves old new (OnFile (cart_file k) (May (old.reads (cart_file k))) old) in
+    on_file_weaker (cart_file cart) (May before) (IsPut clock cart bytes before) old new
+    (subst P ready.0 (settled_moments (cart_file volume.cart.0) May old new (subst S (sym ready.0) settled) (c.commit.ensures.writes.moments told)))
+    (λ disk may. next_is_put clock cart mark number bytes before disk label files blocks joins known.1 known.2
+    (may files blocks (rw c.in-Next.is at sealed) known.1.1))

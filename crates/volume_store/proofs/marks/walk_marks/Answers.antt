@@ -1,10 +1,11 @@
 use Rattle.std.proofs.Common.{◌≡◌, ◌*◌, ◌<◌, ◌≤◌, ◌^◌, ◌∙◌, List, ℕ, length, get_or, ap, subst, arith}
 use Rattle.std.specs.Prelude.{IsTrue}
+use Rattle.room_disk.proofs.Runs.{quiet_then}
 use Rattle.volume_store.specs.Committed.{block_at}
 use Rattle.volume_store.specs.Writes.{cart_file}
-use Rattle.volume_store.specs.Reads.{FindsMark, IsBadMark, WalksOver, StopsAt}
+use Rattle.volume_store.specs.Reads.{FindsMark, WalksOver, StopsAt}
 use Rattle.volume_store.specs.declared.marks.MarkPlace.TheVariants as places
-use Rattle.volume_store.proofs.Walking.{goes_on, ends_closed, ends_bad, ends_short, range_past, quiet_then}
+use Rattle.volume_store.proofs.Walking.{goes_on, ends_closed, ends_bad_or_short, ends_short, range_past}
 use Rattle.volume_store.proofs.marks.walk_marks.Goals as goal
 
 pub returns-in-Closed-clause-walked : goal.returns-in-Closed-clause-walked
@@ -23,7 +24,7 @@ returns-in-Closed-clause-walked g c = λ told.
     omega (arith, c.loop-walk-test.true, c.block_count-blocks.ensures.no_more, c.in_ok-len.ensures.length told, ap length same) in
     let P : List ℕ → Type 0 = λ bytes. WalksOver bytes c.args.volid.0 c.args.wanted walk in
     subst P same (ends_closed (start.reads file) c.args.volid.0 c.args.wanted walk (c.loop-walk.invariant.4 told_start) inside
-    (λ opens. found (ap (λ bytes. get_or (block_at bytes walk.end) 0 0) kept ∙ opens)))
+    (λ opens. found.1 (ap (λ bytes. get_or (block_at bytes walk.end) 0 0) kept ∙ opens)))
 
 pub returns-in-Bad-clause-walked : goal.returns-in-Bad-clause-walked
 returns-in-Bad-clause-walked g c = λ told.
@@ -38,8 +39,8 @@ returns-in-Bad-clause-walked g c = λ told.
     let kept : here.reads file ≡ start.reads file = (c.loop-walk.invariant.2 told_start).reads file in
     let found = rw c.in-Bad.is at (c.in_ok-read_mark.ensures.found told_here) in
     let P : List ℕ → Type 0 = λ bytes. StopsAt bytes c.args.volid.0 walk.end in
-    let Bad : List ℕ → Type 0 = λ bytes. IsBadMark (block_at bytes walk.end) c.args.volid.0 walk.end in
-    subst P same (ends_bad (start.reads file) c.args.volid.0 c.args.wanted walk (c.loop-walk.invariant.4 told_start) (subst Bad kept found))
+    let Bad : List ℕ → Type 0 = λ bytes. FindsMark (block_at bytes walk.end) c.args.volid.0 walk.end places.Bad in
+    subst P same (ends_bad_or_short (start.reads file) c.args.volid.0 c.args.wanted walk (c.loop-walk.invariant.4 told_start) (subst Bad kept found))
 
 pub loop-walk-preserved : goal.loop-walk-preserved
 loop-walk-preserved g c =

@@ -1,6 +1,6 @@
 use Rattle.std.proofs.Common.{arith}
 use Rattle.volume_store.proofs.Finding.{short_block}
-use Rattle.volume_store.proofs.reading.judge.Goals as goal
+use Rattle.volume_store.proofs.reading.judge_block.Goals as goal
 
 pub returns-then-bytes-lt-BLOCK_SIZE-clause-judged : goal.returns-then-bytes-lt-BLOCK_SIZE-clause-judged
 returns-then-bytes-lt-BLOCK_SIZE-clause-judged c = short_block c.args.bytes.now c.args.volid.0 c.args.number (omega arith)
