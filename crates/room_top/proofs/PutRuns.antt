@@ -1,10 +1,13 @@
 -- What storing a file on a raw cartridge leaves.
-use Rattle.std.proofs.Common.{◌≡◌, ◌∙◌, ◌+◌, ◌≤◌, ℕ, List, [], length, Err, refl, sym, subst, inl, inr, arith}
+use Rattle.std.proofs.Common.{◌≡◌, ◌∙◌, ◌+◌, ◌-◌, ◌≤◌, ℕ, List, [], length, Err, refl, sym, subst, inl, inr, arith}
 use Rattle.std.proofs.lemmas.Grind.{div_ceil_times}
 use Rattle.room_base.specs.Outside.{SourceView, ClockView}
 use Rattle.room_disk.specs.Disk.{DiskView, Settled, Quiet, Others, Leaves, OnFile}
 use Rattle.room_disk.proofs.Runs.{leaves_none, leaves_then, leaves_weaker, on_file_then, others_quiet, others_then, quiet_then}
-use Rattle.volume_block.specs.Chunks.{ChunkText}
+use Rattle.volume_block.specs.Chunks.{ChunkText, all_chunks, JoinFrom}
+use Rattle.chunk_mux.specs.Packing.{pack, payload_size}
+use Rattle.chunk_mux.proofs.Joining.{packed_joins}
+use Rattle.chunk_mux.proofs.Numbers.{length-new}
 use Rattle.volume_block.specs.declared.label.Label.{Label}
 use Rattle.volume_store.specs.Committed.{CommittedFile, Committed}
 use Rattle.volume_store.specs.Writes.{cart_file, added_file, with_file, IsWholeOrAbsent}
@@ -140,3 +143,13 @@ leaves_stored input clock cart number before now old mid new bytes status.WriteF
 leaves_stored input clock cart number before now old mid new bytes status.DiskFault quiet cause stored touched = touched
 leaves_stored input clock cart number before now old mid new bytes status.ClockFault quiet cause stored touched = absurd cause
 leaves_stored input clock cart number before now old mid new bytes (status.Refused refusal) quiet cause stored touched = absurd cause
+
+-- ---- one push into an empty buffer
+
+pub pack_joins : (ssid copy offset : ℕ) (piece : List ℕ) → JoinFrom ssid copy offset (all_chunks (pack [] ssid copy offset piece)) piece
+unfolding pack
+pack_joins ssid copy offset piece = packed_joins payload_size ssid copy offset piece (omega arith)
+
+pub pack_count : (ssid copy offset : ℕ) (piece : List ℕ) → length (pack [] ssid copy offset piece) ≡ blocks_for (length piece)
+unfolding pack
+pack_count ssid copy offset piece = length-new (payload_size - 24) _ ssid copy offset piece (omega arith) (omega arith)

@@ -2,10 +2,9 @@ use Rattle.std.proofs.Common.{◌≡◌, ◌∙◌, ℕ, [], List, length, sym, 
 use Rattle.volume_block.specs.Chunks.{ChunkText, all_chunks, JoinFrom}
 use Rattle.volume_block.specs.Region.{IsSealed}
 use Rattle.chunk_mux.specs.Packing.{pack}
-use Rattle.chunk_mux.proofs.Joining.{pack_joins, pack_count}
 use Rattle.room_top.specs.Raw.{JoinTo}
 use Rattle.room_top.specs.Put.{site_number, site_mark, site_volid}
-use Rattle.room_top.proofs.PutRuns.{has_room, some_blocks}
+use Rattle.room_top.proofs.PutRuns.{has_room, some_blocks, pack_joins, pack_count}
 use Rattle.room_top.proofs.store.store_file.Goals as goal
 
 pub seal-region-requires-clause-some : goal.seal-region-requires-clause-some
