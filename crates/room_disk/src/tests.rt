@@ -41,6 +41,20 @@ fn calls(rt: HostRuntime) -> Result<(), Fail> {
     Ok(())
 }
 
+#[test]
+fn gates(rt: HostRuntime) -> Result<(), Fail> {
+    let mut store = MemStore::new(rt.alloc(), Vec::new(rt.alloc()), None);
+    store.write_at(FILE, 0, &[9; 9])?;
+    write_anew(&mut store, FILE, b'J', &[&[1, 2], &[], &[3]])?;
+    if store.len(FILE)? == 4 {
+        write_parts_gated(&mut store, FILE, 3, b'E', &[&[4], &[5, 0]])?;
+    }
+    let mut into = [8; 8];
+    assert_eq!(rt; store.read_at(FILE, 0, &mut into)?, 7);
+    assert_eq!(rt; into, [b'J', 1, 2, b'E', 4, 5, 0, 8]);
+    Ok(())
+}
+
 /// What is done to a file that reads 1, 2, 3, 4, all of it synced.
 #[derive(Clone, Copy)]
 enum Step<'a> {

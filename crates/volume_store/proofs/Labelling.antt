@@ -9,33 +9,13 @@ use Rattle.volume_block.specs.declared.label.Label.{Label}
 use Rattle.volume_block.proofs.Lengths.{length-label_text, length-closed_block}
 use Rattle.room_disk.specs.Crash.{overlaid, Overlays, Torn, GatedTorn}
 use Rattle.room_disk.specs.Writing.{Then, TornThen}
-use Rattle.room_disk.proofs.Overlay.{letter_whole}
+use Rattle.room_disk.proofs.Anew.{closing}
+use Rattle.room_disk.proofs.Overlay.{letter_whole, overlaid_first}
 use Rattle.volume_store.specs.Committed.{block_at, kind_byte_at, Committed, Unlabelled}
 use Rattle.volume_store.specs.Writes.{labelled, without_files, Relabels, IsOpening, IsBeingLabelled}
 use Rattle.volume_store.specs.Reads.{IsClosed}
 use Rattle.volume_store.proofs.Blocks.{block_behind, byte_behind}
 use Rattle.volume_store.proofs.Committing.{first_zero}
-
--- a file with a first byte that isn't zero isn't empty
-omega_some : (old : List ℕ) → get_or old 0 0 ≡ 0x4C → 0 < length old
-omega_some [] first = absurd (omega (arith, first))
-omega_some (byte ∷ rest) first = omega arith
-
--- a torn single byte that reads as before
-untouched : (old new : List ℕ) → Torn 0 (0 ∷ []) old new → get_or new 0 0 ≡ get_or old 0 0 → 0 < length old → new ≡ old
-untouched old new torn kept some = ext_get_or 0 _ _
-    (omega (arith, torn.no_shorter, torn.no_longer))
-    (λ k h. elim (cases_lt 0 k) [
-      | inl later ↦ torn.behind k (omega arith) (omega (arith, torn.no_longer))
-      | inr first ↦ (let here : k ≡ 0 = omega arith in rw here kept)
-    ])
-
--- bytes written at the front of a file
-pub overlaid_first : (text file : List ℕ) (long : ℕ) → length text ≡ long → overlaid 0 text file ≡ text ++ drop long file
-overlaid_first text file long is =
-    let none : 0 - length file ≡ 0 = omega arith in
-    let from : 0 + length text ≡ long = omega (arith, is) in
-    ap (λ count. replicate {A = ℕ} count 0 ++ text ++ drop (0 + length text) file) none ∙ ap (λ count. text ++ drop count file) from
 
 -- the gate letter in front of the rest
 pub label_gate : (label : Label) (rest : List ℕ) → 0x4C ∷ drop 1 (label_text label ++ rest) ≡ label_text label ++ rest
@@ -81,14 +61,7 @@ labelled_closed label old =
 
 -- the images of closing a cartridge
 pub closing_torn : (old new : List ℕ) → Torn 0 (0 ∷ []) old new → (new ≡ old) ⊎ Committed new Unlabelled
-closing_torn old new torn =
-    elim (cases_eq (get_or new 0 0) 0x4C) [
-      | inr closed ↦ inr closed
-      | inl opens ↦ elim (torn.gate 0 refl (inr (inr (inl opens)))) [
-        | inl cleared ↦ absurd (omega (arith, opens, cleared))
-        | inr kept ↦ inl (untouched old new torn kept (omega_some old (sym kept ∙ opens)))
-      ]
-    ]
+closing_torn old new torn = closing 0x4C old new (inr (inr (inl refl))) torn
 
 -- the images of opening a label
 pub opening_torn : (label : Label) (old new blocks rest : List ℕ) → IsLabel label → IsClosed old
