@@ -1,5 +1,5 @@
 -- Chunks that are sorted, and of which each stands in a place of its own.
-use Rattle.std.proofs.Common.{◌≡◌, ℕ, ◌+◌, ◌≤◌, ◌<◌, List, length, get_or, Bool, true, false, refl, sym, ap, subst, ◌∙◌, arith, Ordering, inl, inr, ◌⊎◌}
+use Rattle.std.proofs.Common.{◌≡◌, ℕ, ◌<◌, List, length, get_or, false, refl, sym, ap, subst, ◌∙◌, arith, Ordering, inl, inr, ◌⊎◌}
 use Rattle.std.proofs.lemmas.Bool.{cases_order}
 use Rattle.std.proofs.lemmas.Cmp.{nat_cmp_total, on_total, then_total, ranked}
 use Rattle.std.proofs.lemmas.List.Edits.{Swapped, swapped_from_swap}

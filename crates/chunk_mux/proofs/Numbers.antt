@@ -1,13 +1,13 @@
 -- The numbers of blocks and of bytes that have room after a push.
-use Rattle.std.proofs.Common.{◌≡◌, ℕ, zero, suc, ◌+◌, ◌-◌, ◌*◌, ◌≤◌, ◌<◌, List, [], ◌∷◌, ◌++◌, length, take, drop, cond, Bool, true, false, ◌==◌, refl, sym, ap, subst, ◌∙◌, arith, inl, inr}
+use Rattle.std.proofs.Common.{◌≡◌, ℕ, zero, suc, ◌+◌, ◌-◌, ◌*◌, ◌≤◌, List, [], ◌∷◌, ◌++◌, length, take, drop, cond, ◌==◌, refl, sym, ap, ◌∙◌, arith, inl, inr}
 use Rattle.std.proofs.lemmas.Bool.{cases_lt}
 use Rattle.std.proofs.lemmas.Bool.Decides.{nat_tests}
-use Rattle.std.proofs.lemmas.List.{append-nil, length-append, length-take, length-take-le, length-drop, take_all}
+use Rattle.std.proofs.lemmas.List.{length-drop, take_all}
 use Rattle.std.proofs.Math.Nat.{mul-suc, mul-zero}
 use Rattle.std.specs.Int.{div_ceil}
 use Rattle.std.specs.Prelude.{◌↔◌}
 use Rattle.volume_block.specs.Chunks.{ChunkText, chunks_text}
-use Rattle.chunk_mux.specs.Packing.{chunk_size, room_behind, room_in, fits_behind, chunk_of, new_blocks, packed, add_last}
+use Rattle.chunk_mux.specs.Packing.{chunk_size, room_behind, room_in, fits_behind, chunk_of, new_blocks, packed}
 use Rattle.chunk_mux.specs.Spans.{begun_by, room_after}
 use Rattle.chunk_mux.proofs.Counting.{ceil_none, ceil_more, ceil_fits, fits_ceil}
 use Rattle.chunk_mux.proofs.Packing.{length-chunk_of, new_blocks_none, packed_none, room-add_last}

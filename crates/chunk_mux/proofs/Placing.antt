@@ -1,5 +1,5 @@
 -- Chunks that stand on volumes: a tiling of a copy that is whole, and what a push does.
-use Rattle.std.proofs.Common.{◌≡◌, ◌⊎◌, inl, inr, ℕ, zero, suc, ◌+◌, ◌≤◌, ◌<◌, List, [], ◌∷◌, ◌++◌, length, get_or, take, Bool, true, false, cond, refl, sym, ap, subst, ◌∙◌, arith, append_assoc, length-append}
+use Rattle.std.proofs.Common.{◌≡◌, ◌⊎◌, inl, inr, ℕ, zero, suc, ◌+◌, ◌≤◌, ◌<◌, List, [], ◌∷◌, ◌++◌, length, get_or, Bool, false, cond, refl, sym, ap, subst, ◌∙◌, arith, append_assoc, length-append}
 use Rattle.std.proofs.lemmas.Bool.{cases_lt}
 use Rattle.std.proofs.lemmas.Bool.Decides.{nat_tests}
 use Rattle.std.proofs.lemmas.List.{get_or-take}
@@ -8,8 +8,8 @@ use Rattle.std.specs.Prelude.{nat_lt}
 use Rattle.volume_block.specs.Chunks.{ChunkText, chunks_text, JoinFrom, joined}
 use Rattle.volume_block.specs.Standing.{Standing, chunks_of, InBlocks}
 use Rattle.chunk_mux.specs.Packing.{chunk_size, packed, first_in}
-use Rattle.chunk_mux.specs.Placing.{placed_of, places_of, AreOfCopy}
-use Rattle.chunk_mux.specs.Spans.{IsPartOf, HasOneMore}
+use Rattle.chunk_mux.specs.Placing.{places_of, AreOfCopy}
+use Rattle.chunk_mux.specs.Spans.{IsPartOf}
 use Rattle.chunk_mux.specs.Tiles.{tiling_from}
 use Rattle.chunk_mux.specs.declared.tiling.Tiling.{Tiling}
 use Rattle.chunk_mux.specs.declared.tiling.Tiling.TheVariants.{Whole, Hole, Overlap}

@@ -1,11 +1,11 @@
 -- What a push does to each block.
-use Rattle.std.proofs.Common.{◌≡◌, ℕ, zero, suc, ◌+◌, ◌-◌, ◌≤◌, ◌<◌, List, [], ◌∷◌, ◌++◌, length, take, drop, get_or, Bool, true, false, cond, ◌==◌, All, refl, sym, ap, subst, ◌∙◌, arith}
+use Rattle.std.proofs.Common.{◌≡◌, ℕ, zero, suc, ◌+◌, ◌-◌, ◌≤◌, ◌<◌, List, [], ◌∷◌, ◌++◌, length, take, drop, get_or, Bool, true, false, cond, ◌==◌, refl, sym, ap, subst, ◌∙◌, arith}
 use Rattle.std.proofs.lemmas.Bool.Decides.{nat_tests}
-use Rattle.std.proofs.lemmas.List.{append-nil, length-take, length-drop, take_all, drop_at, drop-drop}
+use Rattle.std.proofs.lemmas.List.{length-drop, drop_at, drop-drop}
 use Rattle.std.specs.List.{AllByRecursion}
 use Rattle.volume_block.specs.Chunks.{ChunkText, all_chunks, JoinFrom}
 use Rattle.chunk_mux.specs.Packing.{chunk_size, room_behind, room_in, chunk_of, new_blocks, packed, first_in}
-use Rattle.chunk_mux.specs.Spans.{IsSlice, IsPartOf, HasOneMore}
+use Rattle.chunk_mux.specs.Spans.{IsPartOf, HasOneMore}
 use Rattle.chunk_mux.proofs.Packing.{packed_none, packed_full}
 
 -- ---- parts of a piece

@@ -1,5 +1,5 @@
 -- The save sets that have chunks in a buffer.
-use Rattle.std.specs.Prelude.{◌≡◌, ℕ, suc, ◌+◌, ◌*◌, ◌/◌, ◌≤◌, ◌<◌, Bool, false, ◌==◌, ◌||◌, List}
+use Rattle.std.specs.Prelude.{ℕ, ◌≤◌, ◌<◌, Bool, false, ◌==◌, ◌||◌, List}
 use Rattle.std.specs.Prelude.{[], ◌∷◌, length, get_or}
 use Rattle.std.specs.Vec.{vec_capacity}
 use Rattle.chunk_mux.specs.declared.ssids.SsidSet.TheInside.{Inside}

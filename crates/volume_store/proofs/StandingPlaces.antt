@@ -1,7 +1,7 @@
 -- One chunk stands in one place.
-use Rattle.std.proofs.Common.{◌≡◌, inl, inr, ℕ, zero, suc, ◌+◌, ◌<◌, ◌≤◌, List, [], ◌∷◌, ◌++◌, length, refl, sym, subst, ap, ◌∙◌, arith, length-append}
+use Rattle.std.proofs.Common.{◌≡◌, inl, inr, ℕ, zero, suc, ◌+◌, ◌<◌, ◌≤◌, List, [], ◌∷◌, ◌++◌, length, refl, sym, subst, ap, ◌∙◌, arith}
 use Rattle.std.proofs.lemmas.Bool.{cases_order}
-use Rattle.volume_block.specs.Chunks.{ChunkText, chunk_text, chunks_text}
+use Rattle.volume_block.specs.Chunks.{ChunkText, chunks_text}
 use Rattle.volume_block.specs.Standing.{Standing}
 use Rattle.volume_block.specs.Valid.{ValidBlock, HoldsChunks}
 use Rattle.volume_block.specs.declared.block.Block.TheVariants as kinds

@@ -1,6 +1,4 @@
-use Rattle.std.proofs.Common.{◌≡◌, ◌+◌, ◌∙◌, length, ap, sym, arith}
-use Rattle.volume_block.specs.Chunks.{joined}
-use Rattle.volume_block.specs.Standing.{chunks_of}
+use Rattle.std.proofs.Common.{◌≡◌, ◌+◌, ◌∙◌, length, ap, arith}
 use Rattle.chunk_mux.specs.declared.tiling.Tiling.TheVariants.{Whole}
 use Rattle.chunk_mux.proofs.Placing.{whole_joins, joins_whole}
 use Rattle.chunk_mux.proofs.laws.whole_chunks_join.Goals as goal

@@ -1,9 +1,8 @@
-use Rattle.std.proofs.Common.{◌≡◌, ◌+◌, ◌≤◌, ◌<◌, ◌||◌, ◌==◌, sym, ap, subst, ◌∙◌, List, ℕ, length, Bool, arith, rules}
+use Rattle.std.proofs.Common.{◌≡◌, ◌≤◌, ◌||◌, ◌==◌, sym, ap, subst, ◌∙◌, List, length, Bool, arith}
 use Rattle.std.proofs.lemmas.Bool.Decides.{nat_tests}
 use Rattle.volume_block.specs.Chunks.{ChunkText, all_chunks}
-use Rattle.chunk_mux.specs.Packing.{pack, packed, payload_size}
+use Rattle.chunk_mux.specs.Packing.{packed}
 use Rattle.chunk_mux.specs.Pushes.{has_set}
-use Rattle.chunk_mux.specs.Ssids.{has_number}
 use Rattle.chunk_mux.proofs.Members.{few_chunks, more_chunks}
 use Rattle.chunk_mux.proofs.Joining.{packed_sets}
 use Rattle.chunk_mux.proofs.Packing.{pack_is, pack_none}

@@ -1,9 +1,8 @@
-use Rattle.std.proofs.Common.{◌≡◌, ◌+◌, ◌≤◌, ◌<◌, sym, ap, subst, ◌∙◌, List, ℕ, length, cond, Bool, true, ◌||◌, ◌==◌, arith, Ok, Err}
+use Rattle.std.proofs.Common.{◌≡◌, sym, ap, subst, ◌∙◌, List, ℕ, length, cond, Bool, true, ◌||◌, ◌==◌, arith, Err}
 use Rattle.std.proofs.lemmas.List.Sorted.{searched}
 use Rattle.std.specs.List.{insert}
 use Rattle.std.specs.Prelude.{is_ok}
 use Rattle.std.specs.Vec.{vec_len}
-use Rattle.std.specs.declared.result.Result.{Result}
 use Rattle.chunk_mux.specs.Ssids.{has_number}
 use Rattle.chunk_mux.proofs.Members.{IsSearched, Ascend, search_has, ascend_far, ascend_inserted, has_inserted, has_known}
 use Rattle.chunk_mux.proofs.ssids.SsidSet.add.Goals as goal

@@ -1,6 +1,5 @@
-use Rattle.std.proofs.Common.{◌≡◌, sym, ap, ◌∙◌, List, ℕ}
+use Rattle.std.proofs.Common.{sym}
 use Rattle.std.proofs.lemmas.List.Sorted.{searched}
-use Rattle.chunk_mux.specs.Ssids.{has_number}
 use Rattle.chunk_mux.proofs.Members.{search_has, ascend_far}
 use Rattle.chunk_mux.proofs.ssids.SsidSet.contains.Goals as goal
 
