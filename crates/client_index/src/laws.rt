@@ -44,7 +44,8 @@ pub fn indexes_are_what_is_found()
 /// A set without an index has no entries, as one whose index has none; and where each set has the same
 /// entries, chains show the same.
 pub fn no_index_is_as_an_empty_one()
-    ensures none { (sets : List SetIndex) (ssid : Ssid) → entries_of sets ssid ≡ None → entries_or_none sets ssid ≡ [] }
+    ensures none { (sets : List SetIndex) (ssid : Ssid) → entries_of sets ssid ≡ None
+        → entries_or_none sets ssid ≡ [] }
     ensures empty { (sets : List SetIndex) (ssid : Ssid) → entries_of sets ssid ≡ Some []
         → entries_or_none sets ssid ≡ [] }
     ensures views { (sets others : List SetIndex)
