@@ -13,7 +13,7 @@ use Rattle.client_index.specs.declared.index.SetIndex.{SetIndex}
 use Rattle.client_index.specs.Order.{PathsAscend, PathsAscendFrom}
 use Rattle.client_index.specs.View.{entry_of, first_of, deciding}
 use Rattle.client_index.specs.Walk.{IsUpTo, EachAscends, EachAscendsFrom, BeginsFrom, IsLeast, lesser_of, lesser}
-use Rattle.client_index.proofs.Ordered.{upto_less, less_upto, less_back, upto_itself, greater_is}
+use Rattle.room_base.proofs.OrderedLists.{upto_less, less_upto, less_back, upto_itself, greater_is}
 
 -- the first of two decisions
 abbrev pub either : Option (Ssid × IndexEntry) → Option (Ssid × IndexEntry) → Option (Ssid × IndexEntry)

@@ -1,5 +1,3 @@
-pub mod Ordered
-pub mod Searched
 pub mod Paths
 pub mod Putting
 pub mod Deciding

@@ -19,8 +19,13 @@ use Rattle.client_index.specs.Order.{PathsAscend, PathsAscendFrom}
 use Rattle.client_index.specs.View.{entry_of, first_of, deciding}
 use Rattle.client_index.specs.Walk.{EachAscends, EachAscendsFrom, BeginsFrom, past, past_in, has_entries, passed, rest_of, rests_of}
 use Rattle.client_index.proofs.Paths.{skips}
-use Rattle.client_index.proofs.Putting.{each-filter}
 use Rattle.client_index.proofs.Deciding.{none_from}
+
+each-filter : {X : Type 0} (P : X → Type 0) (test : X → Bool) (xs : List X) → AllByRecursion P xs → AllByRecursion P (filter test xs)
+each-filter P test [] each = tt
+each-filter P test (x ∷ xs) each =
+    let rest = each-filter P test xs each.1 in
+    cond_both (test x) (x ∷ filter test xs) (filter test xs) (AllByRecursion P) (λ kept. (each.0, rest)) (λ dropped. rest)
 
 -- ---- the loops
 

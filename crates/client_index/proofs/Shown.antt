@@ -1,14 +1,12 @@
 -- What the view is after an index was put or forgotten, and of what entries it consists.
 use Rattle.std.proofs.Common.{◌≡◌, ◌≢◌, ℕ, zero, suc, ◌+◌, Bool, true, false, cond, List, [], ◌∷◌, length, refl, sym, ap, ◌∙◌, subst, arith}
-use Rattle.std.specs.Prelude.{Option, Some, None, ◌==◌, nat_eq, not, unwrap_or, Contains, replicate, ◌↔◌}
-use Rattle.std.specs.List.{find, AllByRecursion}
+use Rattle.std.specs.Prelude.{Option, Some, None, ◌==◌, nat_eq, unwrap_or, Contains, replicate, ◌↔◌}
+use Rattle.std.specs.List.{AllByRecursion}
 use Rattle.std.specs.Option.{option_map, option_and_then}
 use Rattle.std.specs.Cmp.{unsigned_ties}
 use Rattle.std.specs.Cmp.Lexicographic.{slice_cmp, pointwise, nat_list_cmp_total, same_text}
-use Rattle.std.specs.Ordering.{nat_cmp, is_eq, match_ordering}
-use Rattle.std.specs.declared.cmp.Ordering.{Ordering}
-use Rattle.std.specs.declared.cmp.Ordering.TheVariants.{Less, Equal, Greater}
-use Rattle.std.proofs.lemmas.Bool.{true≢false, cond-true, cond-false, eqb-true, eq-eqb, ne_eqb}
+use Rattle.std.specs.Ordering.{nat_cmp, eq_by_cmp}
+use Rattle.std.proofs.lemmas.Bool.{cond-true, cond-false, eq-eqb, ne_eqb}
 use Rattle.std.proofs.lemmas.Cmp.{tied_itself, nat_cmp_total}
 use Rattle.std.proofs.lemmas.List.{get_or_default, length-replicate}
 use Rattle.room_base.specs.declared.numbers.Ssid.{Ssid}
@@ -21,76 +19,52 @@ use Rattle.save_stream.specs.Reading.{Reading}
 use Rattle.save_stream.specs.Standing.{Stands, StandsAt}
 use Rattle.client_index.specs.declared.index.SetIndex.{SetIndex}
 use Rattle.client_index.specs.declared.seen.Seen.{Seen}
-use Rattle.client_index.specs.Order.{PathsAscend, PathsAscendFrom}
-use Rattle.client_index.specs.Sets.{entries_of, put, forget}
+use Rattle.client_index.specs.Order.{path_of, PathsAscend, PathsAscendFrom}
+use Rattle.client_index.specs.Sets.{AreOrdered, entries_of, entries_or_none, forget, number_of, put}
 use Rattle.client_index.specs.View.{shown, seen_of, entry_of, first_of, deciding, chain_of, view_of, view}
-use Rattle.client_index.proofs.Ordered.{ascend_alone}
-use Rattle.client_index.proofs.Paths.{path_of, entry_at}
-use Rattle.client_index.proofs.Putting.{numbered}
-
--- ---- tests one after another
-
-swapped : {A : Type 0} (a b : Bool) (x y z : A) → (a ≡ true → b ≡ true → ⊥) → cond a x (cond b y z) ≡ cond b y (cond a x z)
-swapped true true x y z apart = absurd (apart refl refl)
-swapped true false x y z apart = refl
-swapped false b x y z apart = refl
-
-passed_over : {A : Type 0} (a b : Bool) (x y z : A) → a ≡ b → cond b y z ≡ cond b y (cond a x z)
-passed_over a true x y z same = refl
-passed_over true false x y z same = absurd (true≢false same)
-passed_over false false x y z same = refl
+use Rattle.room_base.proofs.OrderedLists.{ascend_alone}
+use Rattle.client_index.proofs.Paths.{entry_at}
+use Rattle.room_base.specs.Ordered.{find_by}
+use Rattle.room_base.proofs.OrderedLaws.{found_has_key, found_put, found_removed, same_lists}
+use Rattle.room_base.proofs.OrderedNumbers.{equal_numbers}
 
 -- ---- the entries of a set
 
-entries-cons : (set : SetIndex) (sets : List SetIndex) (ssid : Ssid) → entries_of (set ∷ sets) ssid ≡ cond (set.ssid.0 == ssid.0) (Some set.entries) (entries_of sets ssid)
-entries-cons set sets ssid = by (set.ssid.0 == ssid.0)
-  where
-    by : (test : Bool) → option_map (λ (s : SetIndex). s.entries) (cond test (Some set) (find (λ s. s.ssid.0 == ssid.0) sets)) ≡ cond test (Some set.entries) (entries_of sets ssid)
-    by true = refl
-    by false = refl
-
-same_number : (one other : ℕ) → nat_cmp one other ≡ Equal → one ≡ other
-same_number one other same = eqb-true one other (unsigned_ties one other ∙ ap is_eq same)
-
-not_less : (one other : ℕ) → one ≡ other → nat_cmp one other ≡ Less → ⊥
-not_less one other same less = clash (sym (tied_itself nat_cmp_total other) ∙ ap (λ n. nat_cmp n other) (sym same) ∙ less)
-  where
-    clash : Equal ≡ Less → ⊥
-    clash e = cc
+chosen : {X Y : Type 0} (f : X → Y) (test : Bool) (x y : Option X) → option_map f (cond test x y) ≡ cond test (option_map f x) (option_map f y)
+chosen f true x y = refl
+chosen f false x y = refl
 
 pub entries_of-put : (sets : List SetIndex) (new : SetIndex) (ssid : Ssid) → entries_of (put sets new) ssid ≡ cond (new.ssid.0 == ssid.0) (Some new.entries) (entries_of sets ssid)
-entries_of-put [] new ssid = entries-cons new [] ssid
-entries_of-put (first ∷ sets) new ssid = by (numbered new.ssid first) refl (entries_of-put sets new ssid) ∙ sym (ap (λ o. cond (new.ssid.0 == ssid.0) (Some new.entries) o) (entries-cons first sets ssid))
-  where
-    by : (order : Ordering) → numbered new.ssid first ≡ order → entries_of (put sets new) ssid ≡ cond (new.ssid.0 == ssid.0) (Some new.entries) (entries_of sets ssid)
-        → entries_of (match_ordering order (first ∷ put sets new) (new ∷ sets) (new ∷ (first ∷ sets))) ssid
-        ≡ cond (new.ssid.0 == ssid.0) (Some new.entries) (cond (first.ssid.0 == ssid.0) (Some first.entries) (entries_of sets ssid))
-    by Less is rest =
-        entries-cons first (put sets new) ssid
-        ∙ ap (λ o. cond (first.ssid.0 == ssid.0) (Some first.entries) o) rest
-        ∙ swapped (first.ssid.0 == ssid.0) (new.ssid.0 == ssid.0) (Some first.entries) (Some new.entries) (entries_of sets ssid)
-        (λ one other. not_less first.ssid.0 new.ssid.0 (eqb-true first.ssid.0 ssid.0 one ∙ sym (eqb-true new.ssid.0 ssid.0 other)) is)
-    by Equal is rest =
-        entries-cons new sets ssid
-        ∙ passed_over (first.ssid.0 == ssid.0) (new.ssid.0 == ssid.0) (Some first.entries) (Some new.entries) (entries_of sets ssid) (ap (λ n. n == ssid.0) (same_number first.ssid.0 new.ssid.0 is))
-    by Greater is rest = entries-cons new (first ∷ sets) ssid ∙ ap (λ o. cond (new.ssid.0 == ssid.0) (Some new.entries) o) (entries-cons first sets ssid)
-
-same_either_way : {A : Type 0} (test : Bool) (x : A) → x ≡ cond test x x
-same_either_way true x = refl
-same_either_way false x = refl
+entries_of-put sets new ssid =
+    ap (option_map (λ (s : SetIndex). s.entries)) (found_put nat_cmp_total number_of new ssid.0 sets)
+    ∙ chosen (λ (s : SetIndex). s.entries) (eq_by_cmp nat_cmp new.ssid.0 ssid.0) (Some new) (find_by nat_cmp number_of ssid.0 sets)
+    ∙ ap (λ (test : Bool). cond test (Some new.entries) (entries_of sets ssid)) (sym (unsigned_ties new.ssid.0 ssid.0))
 
 pub entries_of-forget : (sets : List SetIndex) (ssid other : Ssid) → entries_of (forget sets ssid) other ≡ cond (ssid.0 == other.0) None (entries_of sets other)
-entries_of-forget [] ssid other = same_either_way (ssid.0 == other.0) None
-entries_of-forget (first ∷ sets) ssid other = by (first.ssid.0 == ssid.0) refl (entries_of-forget sets ssid other) ∙ sym (ap (λ o. cond (ssid.0 == other.0) None o) (entries-cons first sets other))
+entries_of-forget sets ssid other =
+    ap (option_map (λ (s : SetIndex). s.entries)) (found_removed nat_cmp_total number_of ssid.0 other.0 sets)
+    ∙ chosen (λ (s : SetIndex). s.entries) (eq_by_cmp nat_cmp ssid.0 other.0) None (find_by nat_cmp number_of other.0 sets)
+    ∙ ap (λ (test : Bool). cond test None (entries_of sets other)) (sym (unsigned_ties ssid.0 other.0))
+
+-- the index that is found has the number that was looked for
+found-is : (number : ℕ) (sets : List SetIndex) → find_by nat_cmp number_of number sets ≡ option_map (λ (entries : List IndexEntry). record { ssid = record { 0 = number }; entries = entries }) (entries_of sets (record { 0 = number }))
+found-is number sets = by (find_by nat_cmp number_of number sets) refl
   where
-    by : (test : Bool) → (first.ssid.0 == ssid.0) ≡ test → entries_of (forget sets ssid) other ≡ cond (ssid.0 == other.0) None (entries_of sets other)
-        → entries_of (cond (not test) (first ∷ forget sets ssid) (forget sets ssid)) other ≡ cond (ssid.0 == other.0) None (cond (first.ssid.0 == other.0) (Some first.entries) (entries_of sets other))
-    by true is rest = rest ∙ passed_over (first.ssid.0 == other.0) (ssid.0 == other.0) (Some first.entries) None (entries_of sets other) (ap (λ n. n == other.0) (eqb-true first.ssid.0 ssid.0 is))
-    by false is rest =
-        entries-cons first (forget sets ssid) other
-        ∙ ap (λ o. cond (first.ssid.0 == other.0) (Some first.entries) o) rest
-        ∙ swapped (first.ssid.0 == other.0) (ssid.0 == other.0) (Some first.entries) None (entries_of sets other)
-        (λ one two. true≢false (sym (eq-eqb first.ssid.0 ssid.0 (eqb-true first.ssid.0 other.0 one ∙ sym (eqb-true ssid.0 other.0 two))) ∙ is))
+    by : (found : Option SetIndex) → find_by nat_cmp number_of number sets ≡ found
+        → found ≡ option_map (λ (entries : List IndexEntry). record { ssid = record { 0 = number }; entries = entries }) (option_map (λ (s : SetIndex). s.entries) found)
+    by None is = refl
+    by (Some set) is =
+        let same = equal_numbers set.ssid.0 number (found_has_key nat_cmp_total number_of number set sets is) in
+        let numbered : ℕ → Option SetIndex = λ n. Some (record { ssid = record { 0 = n }; entries = set.entries }) in
+        ap numbered same
+
+-- indexes in which the same is found are equal
+pub same-indexes : (sets others : List SetIndex) → AreOrdered sets → AreOrdered others → ((ssid : Ssid) → entries_of sets ssid ≡ entries_of others ssid) → sets ≡ others
+same-indexes sets others one other same =
+    same_lists nat_cmp_total number_of sets others one.numbers other.numbers
+    (λ number. found-is number sets
+    ∙ ap (option_map (λ (entries : List IndexEntry). record { ssid = record { 0 = number }; entries = entries })) (same (record { 0 = number }))
+    ∙ sym (found-is number others))
 
 -- ---- the view of a chain
 
@@ -109,6 +83,16 @@ others_forgotten : (sets : List SetIndex) (ssid : Ssid) (chain : List Ssid) → 
 others_forgotten sets ssid [] each = tt
 others_forgotten sets ssid (other ∷ chain) each =
     (entries_of-forget sets ssid other ∙ cond-false (ssid.0 == other.0) None (entries_of sets other) (ne_eqb ssid.0 other.0 (λ e. each.0 (sym e))), others_forgotten sets ssid chain each.1)
+
+-- sets that have the same entries show the same
+pub same-views : (sets others : List SetIndex) → ((ssid : Ssid) → entries_or_none sets ssid ≡ entries_or_none others ssid) → (chain : List Ssid) (path : List ℕ) → view sets chain path ≡ view others chain path
+same-views sets others same chain path = ap (λ all. view_of all path) (chains chain)
+  where
+    chains : (chain : List Ssid) → chain_of sets chain ≡ chain_of others chain
+    chains [] = refl
+    chains (ssid ∷ chain) =
+        ap (λ (entries : List IndexEntry). record { ssid = ssid; entries = entries } ∷ chain_of sets chain) (same ssid)
+        ∙ ap (λ rest. record { ssid = ssid; entries = entries_or_none others ssid } ∷ rest) (chains chain)
 
 pub view-put_others : (sets : List SetIndex) (new : SetIndex) (chain : List Ssid) (path : List ℕ) → AllByRecursion (λ ssid. ssid.0 ≢ new.ssid.0) chain → view (put sets new) chain path ≡ view sets chain path
 view-put_others sets new chain path each = ap (λ all. view_of all path) (same_chain (put sets new) sets chain (others_put sets new chain each))

@@ -16,12 +16,11 @@ use Rattle.save_stream.specs.Spelling.{IsBelow}
 use Rattle.client_index.specs.declared.index.SetIndex.{SetIndex}
 use Rattle.client_index.specs.declared.seen.Seen.{Seen}
 use Rattle.client_index.specs.declared.walk.Rest.{Rest}
-use Rattle.client_index.specs.Order.{PathsAscend, PathsAscendFrom}
+use Rattle.client_index.specs.Order.{path_of, PathsAscend, PathsAscendFrom}
 use Rattle.client_index.specs.Sets.{entries_of}
 use Rattle.client_index.specs.View.{seen_of, entry_of, first_of, deciding, chain_of, view_of, SeenAscend, AreFirstSeen}
 use Rattle.client_index.specs.Walk.{IsUpTo, EachAscends, EachAscendsFrom, DecideAlike, AreAbove, IsLeast, passed, added, rest_of, rests_of}
-use Rattle.client_index.proofs.Ordered.{upto_less, upto_or_less, upto_itself, ascend_alone}
-use Rattle.client_index.proofs.Paths.{path_of}
+use Rattle.room_base.proofs.OrderedLists.{upto_less, upto_or_less, upto_itself, ascend_alone}
 use Rattle.client_index.proofs.Deciding.{either, deciding-append, none_decides, none_decides_below, none_of_empty, each-push, each-weaker}
 use Rattle.client_index.proofs.Passing.{deciding-passed, passed_ascends}
 

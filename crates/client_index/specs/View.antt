@@ -1,5 +1,5 @@
 -- The view of a chain of save sets: what each path shows.
-use Rattle.std.specs.Prelude.{◌≡◌, ℕ, ◌≤◌, ◌⊎◌, List, [], ◌∷◌, length, map, nat_eq, Contains, Option, Some, None, unwrap_or}
+use Rattle.std.specs.Prelude.{◌≡◌, ℕ, ◌≤◌, ◌⊎◌, List, [], ◌∷◌, length, map, nat_eq, Contains, Option, Some, None}
 use Rattle.std.specs.Option.{option_and_then}
 use Rattle.std.specs.List.{find, AllByRecursion}
 use Rattle.std.specs.Cmp.Lexicographic.{pointwise}
@@ -10,7 +10,7 @@ use Rattle.save_stream.specs.declared.entry.IndexEntry.{IndexEntry}
 use Rattle.save_stream.specs.Spelling.{IsBelow}
 use Rattle.client_index.specs.declared.seen.Seen.{Seen}
 use Rattle.client_index.specs.declared.index.SetIndex.{SetIndex}
-use Rattle.client_index.specs.Sets.{entries_of}
+use Rattle.client_index.specs.Sets.{entries_or_none}
 
 -- what an entry of this kind shows: nothing where the path is gone
 abbrev pub shown : EntryKind → Seen → Option Seen
@@ -38,7 +38,7 @@ deciding (set ∷ sets) path = first_of set.ssid (entry_of set.entries path) (de
 
 -- the sets of a chain, in its order; one without an index has no entries
 abbrev pub chain_of : List SetIndex → List Ssid → List SetIndex
-chain_of sets chain = map (λ ssid. record { ssid = ssid; entries = unwrap_or (entries_of sets ssid) [] }) chain
+chain_of sets chain = map (λ ssid. record { ssid = ssid; entries = entries_or_none sets ssid }) chain
 
 -- what sets show at a path: the first that has an entry of it decides
 abbrev pub view_of : List SetIndex → List ℕ → Option Seen

@@ -3,7 +3,8 @@
 ghost use Rattle.std.specs.Prelude.{◌≡◌, ◌↔◌, IsTrue, option_copied};
 ghost use Rattle.std.specs.Ordering.{nat_cmp};
 ghost use Rattle.std.specs.Cmp.Lexicographic.{slice_cmp};
-ghost use Rattle.client_index.specs.Order.{PathsAscend, IsPlace};
+ghost use Rattle.room_base.specs.Ordered.{IsPlace};
+ghost use Rattle.client_index.specs.Order.{PathsAscend, path_of};
 ghost use Rattle.client_index.specs.View.{entry_of};
 ghost use Rattle.client_index.specs.Walk.{AreAbove};
 
@@ -42,7 +43,7 @@ pub(crate) fn entries_after<'a>(entries: &'a [IndexEntry], after: &[u8]) -> &'a 
 // Where the entry of a path is, or where it would go.
 fn place_of(entries: &[IndexEntry], path: &[u8]) -> Result<usize, usize>
     requires { PathsAscend entries.now }
-    ensures { IsPlace (λ entry. slice_cmp nat_cmp entry.path path.now) entries.now result }
+    ensures { IsPlace (slice_cmp nat_cmp) path_of path.now entries.now result }
 {
     entries.binary_search_by(|entry| compare(entry, path))
 }

@@ -1,17 +1,17 @@
 //! The indexes of save sets.
 
-ghost use Rattle.std.specs.Prelude.{◌≡◌, ◌<◌, ◌≤◌, ◌+◌, ◌⊎◌, [], ◌++◌, IfOk, OnOk, IsSome, IfSome, option_copied, vec_len, vec_capacity};
-ghost use Rattle.std.specs.List.{insert};
+ghost use Rattle.std.specs.Prelude.{◌≡◌, ◌<◌, ◌≤◌, ◌+◌, ◌⊎◌, [], ◌++◌, IfOk, OnOk, IsSome, IfSome, option_copied};
 ghost use Rattle.std.specs.Ordering.{nat_cmp};
-ghost use Rattle.client_index.specs.Order.{PathsAscend, IsPlace};
-ghost use Rattle.client_index.specs.Sets.{AreOrdered, entries_of, put, forget};
+ghost use Rattle.room_base.specs.Ordered.{IsPlace};
+ghost use Rattle.client_index.specs.Order.{PathsAscend};
+ghost use Rattle.client_index.specs.Sets.{AreOrdered, entries_of, forget, number_of, put};
 ghost use Rattle.client_index.specs.View.{chain_of, seen_of, view, AreFirstSeen};
 ghost use Rattle.client_index.specs.Walk.{EachAscendsFrom, DecideAlike, added, rests_of};
 
 use crate::entries::{entries_after, entry_of};
 use crate::seen::{Seen, seen_of};
 use crate::walk::{Rest, least, pass};
-use room_base::{Items, Memory, Name, Ssid};
+use room_base::{Items, Memory, Name, Ssid, insert_in_room};
 use save_stream::IndexEntry;
 use std::alloc::Global;
 use std::marker::Model;
@@ -67,7 +67,7 @@ impl ClientIndex {
         requires room { (0 < self.old.room) ⊎ IsSome (entries_of self.old.sets ssid) }
         ensures sets { self.new.sets ≡ put self.old.sets (record { ssid = ssid; entries = entries.items }) }
         ensures room { self.old.room ≤ self.new.room + 1 }
-        ensures in_place { IsSome (entries_of self.old.sets ssid) → self.old.room ≤ self.new.room }
+        ensures in_place { IsSome (entries_of self.old.sets ssid) → self.new.room ≡ self.old.room }
     {
         let set = SetIndex {
             ssid,
@@ -152,21 +152,10 @@ impl ClientIndex {
 
     // Where the index of a set is, or where it would go.
     fn search(&self, ssid: Ssid) -> Result<usize, usize>
-        ensures { IsPlace (λ set. nat_cmp set.ssid.0 ssid.0) self.now.sets result }
+        ensures { IsPlace nat_cmp number_of ssid.0 self.now.sets result }
     {
         self.sets.binary_search_by_key(&ssid.0, |set| set.ssid.0)
     }
-}
-
-// There is room, so the insertion can't fail.
-fn insert_in_room(sets: &mut Vec<SetIndex>, at: usize, set: SetIndex)
-    requires place { at ≤ vec_len sets.old }
-    requires room { vec_len sets.old < vec_capacity sets.old }
-    ensures items { sets.new.items ≡ insert sets.old.items at set }
-    ensures len { vec_len sets.new ≡ vec_len sets.old + 1 }
-    ensures capacity { vec_capacity sets.old ≤ vec_capacity sets.new }
-{
-    let _ = sets.insert(at, set);
 }
 
 // Adds the path of an entry with what it shows, if it isn't gone.

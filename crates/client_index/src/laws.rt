@@ -1,6 +1,6 @@
 //! Laws of indexes and views: each function has an empty body, and its contract is the law.
 
-ghost use Rattle.std.specs.Prelude.{◌≡◌, ◌≢◌, ◌↔◌, ◌==◌, ℕ, List, [], ◌∷◌, Contains, Some, None, unwrap_or, if◌then◌else◌};
+ghost use Rattle.std.specs.Prelude.{◌≡◌, ◌≢◌, ◌↔◌, ◌==◌, ℕ, List, [], ◌∷◌, Contains, Some, None, if◌then◌else◌};
 ghost use Rattle.std.specs.List.{AllByRecursion};
 ghost use Rattle.room_base.specs.declared.numbers.Ssid.{Ssid};
 ghost use Rattle.save_stream.specs.declared.entry.EntryKind.TheVariants as kinds;
@@ -11,7 +11,7 @@ ghost use Rattle.save_stream.specs.Standing.{Stands};
 ghost use Rattle.client_index.specs.declared.index.SetIndex.{SetIndex};
 ghost use Rattle.client_index.specs.declared.seen.Seen.{Seen};
 ghost use Rattle.client_index.specs.Order.{PathsAscend, PathsAscendFrom};
-ghost use Rattle.client_index.specs.Sets.{entries_of, put, forget};
+ghost use Rattle.client_index.specs.Sets.{AreOrdered, entries_of, entries_or_none, forget, put};
 ghost use Rattle.client_index.specs.View.{chain_of, seen_of, view, view_of};
 
 /// What is put is the index of its set, which decides before the sets behind it in a chain; every other
@@ -35,6 +35,24 @@ pub fn forgotten_is_not_seen()
         → AllByRecursion (λ other. other.0 ≢ ssid.0) chain → view (forget sets ssid) chain path ≡ view sets chain path }
 {}
 
+/// Indexes in which the same is found are equal.
+pub fn indexes_are_what_is_found()
+    ensures { (sets others : List SetIndex) → AreOrdered sets → AreOrdered others
+        → ((ssid : Ssid) → entries_of sets ssid ≡ entries_of others ssid) → sets ≡ others }
+{}
+
+/// A set without an index has no entries, as one whose index has none; and where each set has the same
+/// entries, chains show the same.
+pub fn no_index_is_as_an_empty_one()
+    ensures none { (sets : List SetIndex) (ssid : Ssid) → entries_of sets ssid ≡ None
+        → entries_or_none sets ssid ≡ [] }
+    ensures empty { (sets : List SetIndex) (ssid : Ssid) → entries_of sets ssid ≡ Some []
+        → entries_or_none sets ssid ≡ [] }
+    ensures views { (sets others : List SetIndex)
+        → ((ssid : Ssid) → entries_or_none sets ssid ≡ entries_or_none others ssid)
+        → (chain : List Ssid) (path : List ℕ) → view sets chain path ≡ view others chain path }
+{}
+
 /// The view of one set shows each of its entries as it is, but for those that are gone.
 pub fn one_set_hides_what_is_gone()
     ensures shown { (sets : List SetIndex) (ssid : Ssid) (entries : List IndexEntry) (entry : IndexEntry)
@@ -48,7 +66,7 @@ pub fn one_set_hides_what_is_gone()
 /// What is seen at a path is an entry of it, in a set of the chain: its owner.
 pub fn seen_is_of_its_owner()
     ensures { (sets : List SetIndex) (chain : List Ssid) (path : List ℕ) (seen : Seen) → view sets chain path ≡ Some seen
-        → Contains chain seen.owner × ((entry : IndexEntry) × Contains (unwrap_or (entries_of sets seen.owner) []) entry
+        → Contains chain seen.owner × ((entry : IndexEntry) × Contains (entries_or_none sets seen.owner) entry
         × (entry.path ≡ path) × (seen_of seen.owner entry ≡ Some seen)) }
 {}
 

@@ -11,8 +11,8 @@ mod walk;
 pub use entries::paths_ascend;
 pub use index::ClientIndex;
 pub use laws::{
-    entries_of_streams_ascend, forgotten_is_not_seen, one_set_hides_what_is_gone, put_is_seen,
-    seen_is_of_its_owner,
+    entries_of_streams_ascend, forgotten_is_not_seen, indexes_are_what_is_found,
+    no_index_is_as_an_empty_one, one_set_hides_what_is_gone, put_is_seen, seen_is_of_its_owner,
 };
 pub use seen::Seen;
 

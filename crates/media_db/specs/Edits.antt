@@ -21,7 +21,8 @@ copy_no copy = copy.no.0
 -- the copy of the number is done, and has these sections
 abbrev pub with_copy_done : ℕ → List Section → List SetCopy → List SetCopy
 with_copy_done number sections =
-    update_by nat_cmp copy_no number (λ copy. record copy { state = copies.Done; sections = sections })
+    update_by nat_cmp copy_no number
+    (λ copy. record copy { state = copies.Done; sections = sections })
 
 -- the copies without that of the number
 abbrev pub without_copy : ℕ → List SetCopy → List SetCopy
@@ -62,7 +63,8 @@ with_begun_copy number row =
     record row { copies = row.copies ++ begun_copy number ∷ []; next_copy = number.0 + 1 }
 
 abbrev pub with_done_copy : CopyNo → List Section → Record → Record
-with_done_copy number sections row = record row { copies = with_copy_done number.0 sections row.copies }
+with_done_copy number sections row =
+    record row { copies = with_copy_done number.0 sections row.copies }
 
 abbrev pub with_copy_removed : CopyNo → Record → Record
 with_copy_removed number row = record row { copies = without_copy number.0 row.copies }
@@ -80,7 +82,8 @@ is_complete states.Aborted = false
 
 -- a done copy with a section on the volume
 abbrev pub is_done_on : ℕ → SetCopy → Bool
-is_done_on volid copy = is_done copy.state && list_any (λ section. section.volid.0 == volid) copy.sections
+is_done_on volid copy =
+    is_done copy.state && list_any (λ section. section.volid.0 == volid) copy.sections
 
 -- the copies without those
 abbrev pub copies_off : ℕ → List SetCopy → List SetCopy
@@ -96,7 +99,8 @@ has_done = list_any (λ copy. is_done copy.state)
 abbrev pub has_copy_if_complete : Record → Bool
 has_copy_if_complete row = not (is_complete row.state) || has_done row.copies
 
--- Each done copy with a section on the volume goes, and then each complete record without a done copy.
+-- Each done copy with a section on the volume goes, and then each complete record without
+-- a done copy.
 abbrev pub drop_copies_on : ℕ → List Record → List Record
 drop_copies_on volid =
     retain_mut (λ row. has_copy_if_complete (without_copies_on volid row)) (without_copies_on volid)

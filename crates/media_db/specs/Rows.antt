@@ -31,6 +31,10 @@ remove_row = remove_by nat_cmp ssid_of
 abbrev pub update_row : ℕ → (Record → Record) → List Record → List Record
 update_row = update_by nat_cmp ssid_of
 
+-- a database with a change of the record that has the ssid
+abbrev pub with_edit : ℕ → (Record → Record) → Database → Database
+with_edit ssid change db = record db { records = update_row ssid change db.records }
+
 -- a base has the lesser ssid, so that bases lead downwards
 abbrev pub HasLowerBase : Record → Type 0
 HasLowerBase row = row.base.0 < row.ssid.0
@@ -65,8 +69,9 @@ AreVolumes volumes = Ascends nat_cmp volid_of volumes
 -- The volume that lies on a cartridge, of several the one of least volid; None where there is none.
 abbrev pub IsLeastOn : ℕ → List VolumeRec → Option VolumeRec → Type 0
 IsLeastOn cart volumes None =
-    (volid : ℕ) (other : VolumeRec) → find_volume volid volumes ≡ Some other → ¬ (other.cart.0 ≡ cart)
+    (volid : ℕ) (other : VolumeRec) → find_volume volid volumes ≡ Some other
+    → ¬ (other.cart.0 ≡ cart)
 IsLeastOn cart volumes (Some volume) =
     (find_volume volume.volid.0 volumes ≡ Some volume) × (volume.cart.0 ≡ cart)
-    × ((volid : ℕ) (other : VolumeRec) → find_volume volid volumes ≡ Some other → other.cart.0 ≡ cart
-    → volume.volid.0 ≤ volid)
+    × ((volid : ℕ) (other : VolumeRec) → find_volume volid volumes ≡ Some other
+    → other.cart.0 ≡ cart → volume.volid.0 ≤ volid)

@@ -21,8 +21,8 @@ head_of row = record {
   pool = row.pool;
 }
 
--- The record that a stream with these fields gives, with these copies and this number for its next one.
--- It is complete, not held, not purged, and was never amended.
+-- The record that a stream with these fields gives, with these copies and this number for its next
+-- one. It is complete, not held, not purged, and was never amended.
 abbrev pub from_stream : Fields → List SetCopy → ℕ → Record
 from_stream fields copies next_copy = record {
   ssid = fields.head.ssid;

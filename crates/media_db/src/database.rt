@@ -1,7 +1,7 @@
 ghost use Rattle.std.specs.Prelude.{◌≡◌, ◌+◌, ◌<◌, ◌≤◌, ◌⊎◌, ◌^◌, [], OnOk, IfOk, IfSome, IsSome, length, option_copied, vec_capacity};
 ghost use Rattle.std.specs.Option.{ForSome};
 ghost use Rattle.media_db.specs.Edits.{aborted, amended, drop_copies_on, finished, has_copy_if_complete, purged_by, with_begun_copy, with_copy_removed, with_done_copy, without_copies_on};
-ghost use Rattle.media_db.specs.Rows.{AreRecords, AreVolumes, HasLowerBase, find_record, find_volume, put_row, put_volume, remove_row, remove_volume, update_row, volume_on};
+ghost use Rattle.media_db.specs.Rows.{AreRecords, AreVolumes, HasLowerBase, find_record, find_volume, put_row, put_volume, remove_row, remove_volume, volume_on, with_edit};
 ghost use Rattle.media_db.specs.Usable.{IsLastBase};
 
 use crate::place::{find_record_in, record_place, volume_place};
@@ -11,8 +11,8 @@ use room_base::{Cart, CopyNo, Items, Memory, Moment, Name, Ssid, Volid, insert_i
 use std::alloc::Global;
 use std::marker::Model;
 
-/// The records of save sets and of volumes. Contracts see the two lists, in the order of their numbers,
-/// and how many more of each can be put without taking memory.
+/// The records of save sets and of volumes. Contracts see the two lists, in the order of their
+/// numbers, and how many more of each can be put without taking memory.
 #[derive(Debug, Drop)]
 pub struct MediaDb {
     records: Vec<Record>,
@@ -132,11 +132,13 @@ impl MediaDb {
     /// Puts a record in the place of the one with its ssid, or adds it. Takes no memory.
     pub fn put_record(&mut self, row: Record)
         requires base { HasLowerBase row }
-        requires room { (0 < self.old.record_room) ⊎ IsSome (find_record row.ssid.0 self.old.records) }
+        requires room { (0 < self.old.record_room)
+            ⊎ IsSome (find_record row.ssid.0 self.old.records) }
         ensures records { self.new.records ≡ put_row row self.old.records }
         ensures volumes { self.new.volumes ≡ self.old.volumes }
         ensures room { self.old.record_room ≤ self.new.record_room + 1 }
-        ensures in_place { IsSome (find_record row.ssid.0 self.old.records) → self.new.record_room ≡ self.old.record_room }
+        ensures in_place { IsSome (find_record row.ssid.0 self.old.records)
+            → self.new.record_room ≡ self.old.record_room }
         ensures volume_room { self.new.volume_room ≡ self.old.volume_room }
     {
         match record_place(&self.records, row.ssid.0) {
@@ -147,11 +149,13 @@ impl MediaDb {
 
     /// Puts a volume in the place of the one with its volid, or adds it. Takes no memory.
     pub fn put_volume(&mut self, volume: VolumeRec)
-        requires room { (0 < self.old.volume_room) ⊎ IsSome (find_volume volume.volid.0 self.old.volumes) }
+        requires room { (0 < self.old.volume_room)
+            ⊎ IsSome (find_volume volume.volid.0 self.old.volumes) }
         ensures volumes { self.new.volumes ≡ put_volume volume self.old.volumes }
         ensures records { self.new.records ≡ self.old.records }
         ensures room { self.old.volume_room ≤ self.new.volume_room + 1 }
-        ensures in_place { IsSome (find_volume volume.volid.0 self.old.volumes) → self.new.volume_room ≡ self.old.volume_room }
+        ensures in_place { IsSome (find_volume volume.volid.0 self.old.volumes)
+            → self.new.volume_room ≡ self.old.volume_room }
         ensures record_room { self.new.record_room ≡ self.old.record_room }
     {
         match volume_place(&self.volumes, volume.volid.0) {
@@ -184,8 +188,8 @@ impl MediaDb {
         }
     }
 
-    /// Removes each done copy that has a section on the volume, and then each complete record that has
-    /// no done copy. One pass, which takes no memory.
+    /// Removes each done copy that has a section on the volume, and then each complete record that
+    /// has no done copy. One pass, which takes no memory.
     pub fn drop_copies_on(&mut self, volid: Volid)
         ensures records { self.new.records ≡ drop_copies_on volid.0 self.old.records }
         ensures volumes { self.new.volumes ≡ self.old.volumes }
@@ -199,8 +203,8 @@ impl MediaDb {
         self.records.retain_mut(keep);
     }
 
-    /// Makes a save set complete: its record gets these counts and this digest, and its copy 1 is done,
-    /// with these sections. Takes no memory.
+    /// Makes a save set complete: its record gets these counts and this digest, and its copy 1 is
+    /// done, with these sections. Takes no memory.
     pub fn finish(
         &mut self,
         ssid: Ssid,
@@ -209,7 +213,7 @@ impl MediaDb {
         digest: [u8; 32],
         sections: Items<Section>,
     )
-        ensures { self.new ≡ record self.old { records = update_row ssid.0 (finished files bytes digest sections) self.old.records } }
+        ensures { self.new ≡ with_edit ssid.0 (finished files bytes digest sections) self.old }
     {
         if let Ok(at) = record_place(&self.records, ssid.0) {
             self.records[at].finish(files, bytes, digest, sections);
@@ -218,16 +222,17 @@ impl MediaDb {
 
     /// Its save was given up. Takes no memory.
     pub fn abort(&mut self, ssid: Ssid)
-        ensures { self.new ≡ record self.old { records = update_row ssid.0 aborted self.old.records } }
+        ensures { self.new ≡ with_edit ssid.0 aborted self.old }
     {
         if let Ok(at) = record_place(&self.records, ssid.0) {
             self.records[at].abort();
         }
     }
 
-    /// Sets a record's times and whether it is held, by the journal's entry `changed`. Takes no memory.
+    /// Sets a record's times and whether it is held, by the journal's entry `changed`. Takes no
+    /// memory.
     pub fn amend(&mut self, ssid: Ssid, browse: Moment, retain: Moment, hold: bool, changed: u64)
-        ensures { self.new ≡ record self.old { records = update_row ssid.0 (amended browse retain hold changed) self.old.records } }
+        ensures { self.new ≡ with_edit ssid.0 (amended browse retain hold changed) self.old }
     {
         if let Ok(at) = record_place(&self.records, ssid.0) {
             self.records[at].amend(browse, retain, hold, changed);
@@ -236,7 +241,7 @@ impl MediaDb {
 
     /// A record's index was given up, by the journal's entry `changed`. Takes no memory.
     pub fn purge(&mut self, ssid: Ssid, changed: u64)
-        ensures { self.new ≡ record self.old { records = update_row ssid.0 (purged_by changed) self.old.records } }
+        ensures { self.new ≡ with_edit ssid.0 (purged_by changed) self.old }
     {
         if let Ok(at) = record_place(&self.records, ssid.0) {
             self.records[at].purge(changed);
@@ -260,8 +265,9 @@ impl MediaDb {
     pub fn begin_copy(&mut self, ssid: Ssid, no: CopyNo, room: Vec<SetCopy>)
         requires number { no.0 + 1 < 2 ^ 32 }
         requires empty { room.items ≡ [] }
-        requires room { ForSome (find_record ssid.0 self.old.records) (λ row. length row.copies < vec_capacity room) }
-        ensures { self.new ≡ record self.old { records = update_row ssid.0 (with_begun_copy no) self.old.records } }
+        requires room { ForSome (find_record ssid.0 self.old.records)
+            (λ row. length row.copies < vec_capacity room) }
+        ensures { self.new ≡ with_edit ssid.0 (with_begun_copy no) self.old }
     {
         if let Ok(at) = record_place(&self.records, ssid.0) {
             self.records[at].begin_copy(no, room);
@@ -270,7 +276,7 @@ impl MediaDb {
 
     /// A copy of a record is done, with these sections. Takes no memory.
     pub fn finish_copy(&mut self, ssid: Ssid, no: CopyNo, sections: Items<Section>)
-        ensures { self.new ≡ record self.old { records = update_row ssid.0 (with_done_copy no sections) self.old.records } }
+        ensures { self.new ≡ with_edit ssid.0 (with_done_copy no sections) self.old }
     {
         if let Ok(at) = record_place(&self.records, ssid.0) {
             self.records[at].finish_copy(no, sections);
@@ -279,7 +285,7 @@ impl MediaDb {
 
     /// Removes a copy of a record. Takes no memory.
     pub fn remove_copy(&mut self, ssid: Ssid, no: CopyNo)
-        ensures { self.new ≡ record self.old { records = update_row ssid.0 (with_copy_removed no) self.old.records } }
+        ensures { self.new ≡ with_edit ssid.0 (with_copy_removed no) self.old }
     {
         if let Ok(at) = record_place(&self.records, ssid.0) {
             self.records[at].remove_copy(no);

@@ -13,18 +13,21 @@ ghost use Rattle.media_db.specs.Streams.{from_stream, head_of};
 
 /// What was put is found, and at every other number what was found before.
 pub fn found_after_a_put()
-    ensures record_put { (row : Record) (rows : List Record) → find_record row.ssid.0 (put_row row rows) ≡ Some row }
+    ensures record_put { (row : Record) (rows : List Record)
+        → find_record row.ssid.0 (put_row row rows) ≡ Some row }
     ensures other_record { (row : Record) (rows : List Record) (ssid : ℕ) → ssid ≢ row.ssid.0
         → find_record ssid (put_row row rows) ≡ find_record ssid rows }
     ensures volume_put { (volume : VolumeRec) (volumes : List VolumeRec)
         → find_volume volume.volid.0 (put_volume volume volumes) ≡ Some volume }
-    ensures other_volume { (volume : VolumeRec) (volumes : List VolumeRec) (volid : ℕ) → volid ≢ volume.volid.0
+    ensures other_volume { (volume : VolumeRec) (volumes : List VolumeRec) (volid : ℕ)
+        → volid ≢ volume.volid.0
         → find_volume volid (put_volume volume volumes) ≡ find_volume volid volumes }
 {}
 
 /// What was removed isn't found, and at every other number what was found before.
 pub fn found_after_a_removal()
-    ensures no_record { (rows : List Record) (ssid : ℕ) → find_record ssid (remove_row ssid rows) ≡ None }
+    ensures no_record { (rows : List Record) (ssid : ℕ)
+        → find_record ssid (remove_row ssid rows) ≡ None }
     ensures other_record { (rows : List Record) (gone ssid : ℕ) → ssid ≢ gone
         → find_record ssid (remove_row gone rows) ≡ find_record ssid rows }
     ensures no_volume { (volumes : List VolumeRec) (volid : ℕ)
@@ -37,14 +40,15 @@ pub fn found_after_a_removal()
 pub fn found_after_an_edit()
     ensures edited { (change : Record → Record) → ((row : Record) → (change row).ssid ≡ row.ssid)
         → (rows : List Record) (ssid : ℕ)
-        → find_record ssid (update_row ssid change rows) ≡ option_map change (find_record ssid rows) }
+        → find_record ssid (update_row ssid change rows)
+        ≡ option_map change (find_record ssid rows) }
     ensures others { (change : Record → Record) → ((row : Record) → (change row).ssid ≡ row.ssid)
         → (rows : List Record) (edited ssid : ℕ) → ssid ≢ edited
         → find_record ssid (update_row edited change rows) ≡ find_record ssid rows }
 {}
 
-/// After the copies on a volume went, a record is found without them, and isn't if it was complete and
-/// has no done copy then.
+/// After the copies on a volume went, a record is found without them, and isn't if it was complete
+/// and has no done copy then.
 pub fn found_after_a_drop()
     ensures { (rows : List Record) (volid ssid : ℕ) → AreRecords rows
         → find_record ssid (drop_copies_on volid rows)
@@ -61,12 +65,13 @@ pub fn no_copy_is_left_on_the_volume()
         → AllByRecursion (λ row. has_copy_if_complete row ≡ true) (drop_copies_on volid rows) }
 {}
 
-/// What is found has the number, and is in the list; and what is in the list is found by its number.
+/// What is found has the number, and is in the list; and what is in the list is found by its
+/// number.
 pub fn found_is_listed()
-    ensures record_number { (rows : List Record) (ssid : ℕ) (row : Record) → find_record ssid rows ≡ Some row
-        → row.ssid.0 ≡ ssid }
-    ensures record_listed { (rows : List Record) (ssid : ℕ) (row : Record) → find_record ssid rows ≡ Some row
-        → Contains rows row }
+    ensures record_number { (rows : List Record) (ssid : ℕ) (row : Record)
+        → find_record ssid rows ≡ Some row → row.ssid.0 ≡ ssid }
+    ensures record_listed { (rows : List Record) (ssid : ℕ) (row : Record)
+        → find_record ssid rows ≡ Some row → Contains rows row }
     ensures record_found { (rows : List Record) (row : Record) → AreRecords rows → Contains rows row
         → find_record row.ssid.0 rows ≡ Some row }
     ensures volume_number { (volumes : List VolumeRec) (volid : ℕ) (volume : VolumeRec)

@@ -111,6 +111,72 @@ fn database_of(alloc: Global) -> Result<MediaDb, Memory> {
     Ok(db)
 }
 
+// A run of 500 bytes on the volume.
+fn sections_on(alloc: Global, volid: u64) -> Result<Items<Section>, Memory> {
+    let section = Section {
+        volid: Volid(volid),
+        mark: 9,
+        first: 0,
+        last: 0,
+        from: 0,
+        to: 500,
+    };
+    Ok(Items::of(Vec::from_array(alloc, [section])?))
+}
+
+fn finish(alloc: Global, db: &mut MediaDb, ssid: u64) -> Result<(), Memory> {
+    db.finish(Ssid(ssid), 5, 500, [9; 32], sections_on(alloc, 4)?);
+    Ok(())
+}
+
+fn amend(db: &mut MediaDb, ssid: u64) {
+    db.amend(Ssid(ssid), Moment(11), Moment(12), true, 21);
+}
+
+fn purge(db: &mut MediaDb, ssid: u64) {
+    db.purge(Ssid(ssid), 22);
+}
+
+fn abort(db: &mut MediaDb, ssid: u64) {
+    db.abort(Ssid(ssid));
+}
+
+// Copy 2 is begun and done.
+fn copy_set(alloc: Global, db: &mut MediaDb, ssid: u64) -> Result<(), Memory> {
+    let room = db.room_for_copy(Ssid(ssid))?;
+    let sections = sections_on(alloc, 5)?;
+    db.begin_copy(Ssid(ssid), CopyNo(2), room);
+    db.finish_copy(Ssid(ssid), CopyNo(2), sections);
+    Ok(())
+}
+
+fn remove_copy(db: &mut MediaDb, ssid: u64, copy: u32) {
+    db.remove_copy(Ssid(ssid), CopyNo(copy));
+}
+
+fn drop_copies_on(db: &mut MediaDb, volid: u64) {
+    db.drop_copies_on(Volid(volid));
+}
+
+// The numbers of a record's copies, with the volume of each one's first section.
+fn has_copies(db: &MediaDb, ssid: u64, copies: &[(u32, u64)]) -> bool {
+    let Some(row) = db.record(Ssid(ssid)) else {
+        return false;
+    };
+    row.copies
+        .as_slice()
+        .iter()
+        .map(|copy| (copy.no.0, volid_of(copy)))
+        .eq(copies.iter().copied())
+}
+
+fn volid_of(copy: &SetCopy) -> u64 {
+    copy.sections
+        .as_slice()
+        .first()
+        .map_or(0, |section| section.volid.0)
+}
+
 fn remove(db: &mut MediaDb, ssid: u64) {
     db.remove_record(Ssid(ssid));
 }
@@ -203,5 +269,50 @@ fn copies_are_equal(rt: HostRuntime) -> Result<(), Fail> {
     assert_eq!(rt; row.copy()?, row);
     let volume = volume_of(alloc, 1, 1)?;
     assert_eq!(rt; volume.copy()?, volume);
+    Ok(())
+}
+
+#[test]
+fn records_are_edited_in_place(rt: HostRuntime) -> Result<(), Fail> {
+    let alloc = rt.alloc();
+    let mut db = database_of(alloc)?;
+    finish(alloc, &mut db, 8)?;
+    amend(&mut db, 8);
+    purge(&mut db, 4);
+    abort(&mut db, 6);
+    let states = [
+        RecordState::Complete,
+        RecordState::Complete,
+        RecordState::Aborted,
+    ];
+    let changes = [(8, 5, 500, 21), (4, 2, 9_000, 22), (6, 2, 9_000, 0)];
+    for ((ssid, files, bytes, changed), state) in changes.into_iter().zip(states) {
+        let row = db.record(Ssid(ssid)).ok_or(Memory)?;
+        assert_eq!(rt;
+            (row.files, row.bytes, row.changed),
+            (files, bytes, changed)
+        );
+        assert_eq!(rt; row.state, state);
+        assert_eq!(rt; (row.hold, row.purged), (ssid == 8, ssid == 4));
+    }
+    copy_set(alloc, &mut db, 8)?;
+    assert!(rt; has_copies(&db, 8, &[(1, 4), (2, 5)]));
+    remove_copy(&mut db, 8, 1);
+    assert!(rt; has_copies(&db, 8, &[(2, 5)]));
+    assert!(rt; has_copies(&db, 4, &[(1, 1)]));
+    Ok(())
+}
+
+#[test]
+fn copies_on_a_volume_go(rt: HostRuntime) -> Result<(), Fail> {
+    let alloc = rt.alloc();
+    let mut db = database_of(alloc)?;
+    copy_set(alloc, &mut db, 3)?;
+    drop_copies_on(&mut db, 2);
+    assert!(rt; has_ssids(&db, &[1, 2, 3, 4, 5, 7, 8, 9]));
+    drop_copies_on(&mut db, 1);
+    assert!(rt; has_ssids(&db, &[3, 7, 8]));
+    assert!(rt; has_copies(&db, 3, &[(2, 5)]));
+    assert!(rt; has_copies(&db, 7, &[]));
     Ok(())
 }

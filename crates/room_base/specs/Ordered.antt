@@ -18,9 +18,12 @@ Ascends cmp key [] = Unit {0}
 Ascends cmp key (x ∷ xs) = AscendsFrom cmp key (key x) xs
 
 -- where the item of a key stands, or between which items it would stand
-abbrev pub IsPlace : {X K : Type 0} → (K → K → Ordering) → (X → K) → K → List X → Result ℕ ℕ → Type 0
-IsPlace cmp key wanted xs (Ok at) = (at < length xs) × HoldsAt (λ x. cmp (key x) wanted ≡ Equal) xs at
-IsPlace cmp key wanted xs (Err at) = (at ≤ length xs) × AllWithin (λ x. cmp (key x) wanted ≡ Less) xs 0 at
+abbrev pub IsPlace : {X K : Type 0}
+    → (K → K → Ordering) → (X → K) → K → List X → Result ℕ ℕ → Type 0
+IsPlace cmp key wanted xs (Ok at) =
+    (at < length xs) × HoldsAt (λ x. cmp (key x) wanted ≡ Equal) xs at
+IsPlace cmp key wanted xs (Err at) =
+    (at ≤ length xs) × AllWithin (λ x. cmp (key x) wanted ≡ Less) xs 0 at
     × AllWithin (λ x. cmp (key x) wanted ≡ Greater) xs at (length xs)
 
 -- ---- look-ups and updates
@@ -33,14 +36,17 @@ find_by cmp key wanted xs = find (λ x. eq_by_cmp cmp (key x) wanted) xs
 abbrev pub put_by : {X K : Type 0} → (K → K → Ordering) → (X → K) → X → List X → List X
 put_by cmp key item [] = item ∷ []
 put_by cmp key item (x ∷ xs) =
-    match_ordering (cmp (key x) (key item)) (x ∷ put_by cmp key item xs) (item ∷ xs) (item ∷ (x ∷ xs))
+    match_ordering (cmp (key x) (key item))
+    (x ∷ put_by cmp key item xs) (item ∷ xs) (item ∷ (x ∷ xs))
 
 -- the list without items of the key
 abbrev pub remove_by : {X K : Type 0} → (K → K → Ordering) → (X → K) → K → List X → List X
 remove_by cmp key gone xs = filter (λ x. not (eq_by_cmp cmp (key x) gone)) xs
 
 -- the list with the first item of the key changed
-abbrev pub update_by : {X K : Type 0} → (K → K → Ordering) → (X → K) → K → (X → X) → List X → List X
+abbrev pub update_by : {X K : Type 0}
+    → (K → K → Ordering) → (X → K) → K → (X → X) → List X → List X
 update_by cmp key wanted change [] = []
 update_by cmp key wanted change (x ∷ xs) =
-    if eq_by_cmp cmp (key x) wanted then (change x ∷ xs) else (x ∷ update_by cmp key wanted change xs)
+    if eq_by_cmp cmp (key x) wanted then (change x ∷ xs)
+    else (x ∷ update_by cmp key wanted change xs)

@@ -3,8 +3,8 @@ use Rattle.std.specs.Cmp.Lexicographic.{slice_cmp, nat_list_cmp_total}
 use Rattle.std.specs.Ordering.{nat_cmp, is_lt}
 use Rattle.std.proofs.lemmas.List.Sorted.{answers_always}
 use Rattle.save_stream.specs.declared.entry.IndexEntry.{IndexEntry}
-use Rattle.client_index.proofs.Ordered.{tested}
-use Rattle.client_index.proofs.Paths.{path_of}
+use Rattle.room_base.proofs.OrderedLists.{tested}
+use Rattle.client_index.specs.Order.{path_of}
 use Rattle.client_index.proofs.entries.paths_ascend.Goals as goal
 
 pub returns : goal.returns

@@ -3,7 +3,7 @@ use Rattle.std.specs.Cmp.Lexicographic.{slice_cmp, nat_list_cmp_total}
 use Rattle.std.specs.Ordering.{nat_cmp}
 use Rattle.std.proofs.lemmas.Fn.{always_returns_same}
 use Rattle.save_stream.specs.declared.entry.IndexEntry.{IndexEntry}
-use Rattle.client_index.proofs.Ordered.{searched}
+use Rattle.room_base.proofs.OrderedLists.{searched}
 use Rattle.client_index.proofs.entries.place_of.Goals as goal
 
 -- the closure compares with the path that was passed

@@ -8,9 +8,8 @@ pub returns-in-Ok-clause-value : goal.returns-in-Ok-clause-value
 returns-in-Ok-clause-value c =
     let is = ap (λ (index : Indexes). index.sets) c.self.view_is in
     ap (λ (entries : List IndexEntry). Some entries) c.as_slice.ensures
-    ∙ entries_at _ _ c.in-Ok.at c.index.result.now (subst AreOrdered is c.self.invariant) c.in-Ok.ensures (rw (← is) c.index.ensures)
+    ∙ entries_at _ c.args.ssid c.in-Ok.at c.index.result.now (subst AreOrdered is c.self.invariant) c.in-Ok.ensures (rw (← is) c.index.ensures)
 
 pub returns-in-Err-clause-value : goal.returns-in-Err-clause-value
 returns-in-Err-clause-value c =
-    let is = ap (λ (index : Indexes). index.sets) c.self.view_is in
-    no_entries _ _ c.in-Err.field-0 (subst AreOrdered is c.self.invariant) c.in-Err.ensures
+    no_entries _ c.args.ssid c.in-Err.field-0 c.in-Err.ensures

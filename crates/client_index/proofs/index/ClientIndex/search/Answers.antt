@@ -2,7 +2,7 @@ use Rattle.std.proofs.Common.{rules}
 use Rattle.std.proofs.lemmas.Cmp.{nat_cmp_total}
 use Rattle.std.proofs.lemmas.List.Sorted.{answers_always}
 use Rattle.client_index.specs.declared.index.SetIndex.{SetIndex}
-use Rattle.client_index.proofs.Ordered.{searched}
+use Rattle.room_base.proofs.OrderedLists.{searched}
 use Rattle.client_index.proofs.index.ClientIndex.search.Goals as goal
 
 pub returns : goal.returns
