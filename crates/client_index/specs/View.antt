@@ -1,5 +1,6 @@
 -- The view of a chain of save sets: what each path shows.
-use Rattle.std.specs.Prelude.{◌≡◌, ℕ, ◌≤◌, ◌⊎◌, List, [], ◌∷◌, length, map, nat_eq, Contains, Option, Some, None}
+use Rattle.std.specs.Prelude.{◌≡◌, ℕ, ◌≤◌, ◌⊎◌, List, [], ◌∷◌, length, map, nat_eq, Contains}
+use Rattle.std.specs.Prelude.{Option, Some, None}
 use Rattle.std.specs.Option.{option_and_then}
 use Rattle.std.specs.List.{find, AllByRecursion}
 use Rattle.std.specs.Cmp.Lexicographic.{pointwise}
@@ -20,14 +21,24 @@ shown kinds.Gone seen = None
 
 -- what an entry of a set shows
 abbrev pub seen_of : Ssid → IndexEntry → Option Seen
-seen_of owner entry = shown entry.kind (record { owner = owner; kind = entry.kind; mtime = entry.mtime; size = entry.size; place = entry.place })
+seen_of owner entry =
+    shown entry.kind
+    (record {
+      owner = owner;
+      kind = entry.kind;
+      mtime = entry.mtime;
+      size = entry.size;
+      place =
+          entry.place;
+    })
 
 -- the entry of a path
 abbrev pub entry_of : List IndexEntry → List ℕ → Option IndexEntry
 entry_of entries path = find (λ entry. pointwise nat_eq entry.path path) entries
 
 -- a set's entry comes before what other sets have
-abbrev pub first_of : Ssid → Option IndexEntry → Option (Ssid × IndexEntry) → Option (Ssid × IndexEntry)
+abbrev pub first_of : Ssid → Option IndexEntry → Option (Ssid × IndexEntry)
+    → Option (Ssid × IndexEntry)
 first_of owner (Some entry) others = Some (owner, entry)
 first_of owner None others = others
 
@@ -38,7 +49,8 @@ deciding (set ∷ sets) path = first_of set.ssid (entry_of set.entries path) (de
 
 -- the sets of a chain, in its order; one without an index has no entries
 abbrev pub chain_of : List SetIndex → List Ssid → List SetIndex
-chain_of sets chain = map (λ ssid. record { ssid = ssid; entries = entries_or_none sets ssid }) chain
+chain_of sets chain =
+    map (λ ssid. record { ssid = ssid; entries = entries_or_none sets ssid }) chain
 
 -- what sets show at a path: the first that has an entry of it decides
 abbrev pub view_of : List SetIndex → List ℕ → Option Seen
@@ -53,11 +65,13 @@ abbrev pub SeenAscend : List ℕ → List (List ℕ × Seen) → Type 0
 SeenAscend low [] = Unit {0}
 SeenAscend low (one ∷ others) = IsBelow low one.0 × SeenAscend one.0 others
 
--- The first paths above this one that sets show, at most so many, each with what it shows. A path that
--- isn't among them stands above them all, and they are as many as they may be.
-pub record AreFirstSeen (sets : List SetIndex) (after : List ℕ) (most : ℕ) (answer : List (List ℕ × Seen)) : Type 0 where
+-- The first paths above this one that sets show, at most so many, each with what it shows. A path
+-- that isn't among them stands above them all, and they are as many as they may be.
+pub record AreFirstSeen (sets : List SetIndex) (after : List ℕ) (most : ℕ)
+    (answer : List (List ℕ × Seen)) : Type 0 where
   pub ascend : SeenAscend after answer
   pub shown : AllByRecursion (λ one. view_of sets one.0 ≡ Some one.1) answer
   pub count : length answer ≤ most
   pub complete : (path : List ℕ) (seen : Seen) → IsBelow after path → view_of sets path ≡ Some seen
-      → Contains answer (path, seen) ⊎ ((length answer ≡ most) × AllByRecursion (λ one. IsBelow one.0 path) answer)
+      → Contains answer (path, seen)
+      ⊎ ((length answer ≡ most) × AllByRecursion (λ one. IsBelow one.0 path) answer)

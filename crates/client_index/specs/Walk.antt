@@ -1,5 +1,6 @@
 -- What a walk through the entries of sets has still before it.
-use Rattle.std.specs.Prelude.{◌≡◌, ℕ, List, [], ◌∷◌, length, not, ◌==◌, map, filter, nat_eq, Bool, false, Option, Some, None, if◌then◌else◌}
+use Rattle.std.specs.Prelude.{◌≡◌, ℕ, List, [], ◌∷◌, length, not, ◌==◌, map, filter, nat_eq, Bool}
+use Rattle.std.specs.Prelude.{false, Option, Some, None, if◌then◌else◌}
 use Rattle.std.specs.Borrow.{Bor}
 use Rattle.std.specs.List.{AllByRecursion}
 use Rattle.std.specs.Option.{option_map}
@@ -34,7 +35,8 @@ EachAscendsFrom low sets = AllByRecursion (λ set. PathsAscendFrom low set.entri
 
 -- the sets decide alike on the paths above this one
 abbrev pub DecideAlike : List ℕ → List SetIndex → List SetIndex → Type 0
-DecideAlike low sets others = (path : List ℕ) → IsBelow low path → deciding sets path ≡ deciding others path
+DecideAlike low sets others =
+    (path : List ℕ) → IsBelow low path → deciding sets path ≡ deciding others path
 
 -- entries of other ones above this path
 pub record AreAbove (low : List ℕ) (entries above : List IndexEntry) : Type 0 where
@@ -50,12 +52,14 @@ BeginsFrom path (entry ∷ entries) = IsUpTo path entry.path
 abbrev pub IsLeast : List SetIndex → Option (Ssid × IndexEntry) → Type 0
 IsLeast sets None = AllByRecursion (λ set. set.entries ≡ []) sets
 IsLeast sets (Some least) =
-    (deciding sets least.1.path ≡ Some least) × AllByRecursion (λ set. BeginsFrom least.1.path set.entries) sets
+    (deciding sets least.1.path ≡ Some least)
+    × AllByRecursion (λ set. BeginsFrom least.1.path set.entries) sets
 
 -- the first of two entries, unless the other's path is below its own
 abbrev pub lesser_of : Option (Ssid × IndexEntry) → Ssid × IndexEntry → Option (Ssid × IndexEntry)
 lesser_of None other = Some other
-lesser_of (Some least) other = if is_gt (slice_cmp nat_cmp least.1.path other.1.path) then Some other else Some least
+lesser_of (Some least) other =
+    if is_gt (slice_cmp nat_cmp least.1.path other.1.path) then Some other else Some least
 
 -- the least entry, when those of a set are seen too
 abbrev pub lesser : Option (Ssid × IndexEntry) → Ssid → List IndexEntry → Option (Ssid × IndexEntry)
@@ -65,7 +69,8 @@ lesser least owner (entry ∷ entries) = lesser_of least (owner, entry)
 -- entries without the first one, where it has this path
 abbrev pub past : List ℕ → List IndexEntry → List IndexEntry
 past path [] = []
-past path (entry ∷ entries) = if pointwise nat_eq entry.path path then entries else (entry ∷ entries)
+past path (entry ∷ entries) =
+    if pointwise nat_eq entry.path path then entries else (entry ∷ entries)
 
 abbrev pub has_entries : SetIndex → Bool
 has_entries set = not (length set.entries == 0)

@@ -1,6 +1,7 @@
 //! The indexes of save sets.
 
-ghost use Rattle.std.specs.Prelude.{◌≡◌, ◌<◌, ◌≤◌, ◌+◌, ◌⊎◌, [], ◌++◌, IfOk, OnOk, IsSome, IfSome, option_copied};
+ghost use Rattle.std.specs.Prelude.{◌≡◌, ◌<◌, ◌≤◌, ◌+◌, ◌⊎◌, [], ◌++◌, IfOk, OnOk, IsSome, IfSome};
+ghost use Rattle.std.specs.Prelude.{option_copied};
 ghost use Rattle.std.specs.Ordering.{nat_cmp};
 ghost use Rattle.room_base.specs.Ordered.{IsPlace};
 ghost use Rattle.client_index.specs.Order.{PathsAscend};
@@ -23,8 +24,8 @@ pub struct SetIndex {
     entries: Items<IndexEntry>,
 }
 
-/// The indexes of save sets: which entries each set has. Contracts see the sets in the order of their
-/// numbers, and how many more indexes can be put without taking memory.
+/// The indexes of save sets: which entries each set has. Contracts see the sets in the order of
+/// their numbers, and how many more indexes can be put without taking memory.
 #[derive(Debug, Drop)]
 pub struct ClientIndex {
     sets: Vec<SetIndex>,
@@ -36,7 +37,11 @@ impl Model for ClientIndex {
 
     ghost Value = { Indexes };
 
-    ghost view = { λ index. record { sets = index.sets.items; room = vec_capacity index.sets - vec_len index.sets } };
+    ghost view = { λ index. record {
+      sets = index.sets.items;
+      room = vec_capacity index.sets -
+          vec_len index.sets;
+    } };
 
     ghost invariant = { λ index. AreOrdered index.sets.items };
 }
@@ -65,7 +70,8 @@ impl ClientIndex {
     pub fn put(&mut self, ssid: Ssid, entries: Vec<IndexEntry>)
         requires ascend { PathsAscend entries.items }
         requires room { (0 < self.old.room) ⊎ IsSome (entries_of self.old.sets ssid) }
-        ensures sets { self.new.sets ≡ put self.old.sets (record { ssid = ssid; entries = entries.items }) }
+        ensures sets { self.new.sets
+            ≡ put self.old.sets (record { ssid = ssid; entries = entries.items }) }
         ensures room { self.old.room ≤ self.new.room + 1 }
         ensures in_place { IsSome (entries_of self.old.sets ssid) → self.new.room ≡ self.old.room }
     {
@@ -122,7 +128,9 @@ impl ClientIndex {
         after: &[u8],
         most: u32,
     ) -> Result<Vec<(Name, Seen)>, Memory>
-        ensures { IfOk result (λ answer. AreFirstSeen (chain_of self.now.sets chain.now) after.now most answer.items) }
+        ensures { IfOk result
+            (λ answer. AreFirstSeen
+            (chain_of self.now.sets chain.now) after.now most answer.items) }
     {
         let mut rests = self.rests_after(chain, after)?;
         let mut answer = Vec::new(*self.sets.allocator());
@@ -139,7 +147,9 @@ impl ClientIndex {
     // The entries above a path, of each set of a chain that has an index.
     fn rests_after(&self, chain: &[Ssid], after: &[u8]) -> Result<Vec<Rest<'_>>, Memory>
         ensures ascend { IfOk result (λ rests. EachAscendsFrom after.now (rests_of rests.items)) }
-        ensures same { IfOk result (λ rests. DecideAlike after.now (chain_of self.now.sets chain.now) (rests_of rests.items)) }
+        ensures same { IfOk result
+            (λ rests. DecideAlike after.now (chain_of self.now.sets chain.now)
+            (rests_of rests.items)) }
     {
         let mut rests = Vec::new(*self.sets.allocator());
         for owner in chain {
@@ -160,7 +170,8 @@ impl ClientIndex {
 
 // Adds the path of an entry with what it shows, if it isn't gone.
 fn push_seen(answer: &mut Vec<(Name, Seen)>, owner: Ssid, entry: &IndexEntry) -> Result<(), Memory>
-    ensures { OnOk result (answer.new.items ≡ answer.old.items ++ added entry.now.path (seen_of owner entry.now)) }
+    ensures { OnOk result
+        (answer.new.items ≡ answer.old.items ++ added entry.now.path (seen_of owner entry.now)) }
 {
     if let Some(seen) = seen_of(owner, entry) {
         answer.push((entry.path.copy()?, seen))?;

@@ -1,5 +1,5 @@
-//! Which path lies in which save set: the indexes of the save sets, and the view of a chain of them.
-//! docs/definitions.md says what a view is.
+//! Which path lies in which save set: the indexes of the save sets, and the view of a chain of
+//! them. docs/definitions.md says what a view is.
 #![tactic(auto)]
 
 mod entries;

@@ -1,7 +1,8 @@
 //! A walk through the entries of sets, in the order of their paths.
 
 ghost use Rattle.std.specs.Prelude.{◌≡◌, map};
-ghost use Rattle.client_index.specs.Walk.{EachAscends, IsLeast, lesser, past, past_in, passed, rest_of, rests_of, lent};
+ghost use Rattle.client_index.specs.Walk.{EachAscends, IsLeast, lesser, past, past_in, passed};
+ghost use Rattle.client_index.specs.Walk.{rest_of, rests_of, lent};
 
 use crate::entries::compare;
 use room_base::Ssid;
@@ -23,7 +24,8 @@ impl<'a> Rest<'a> {
 
     // The rest behind a path, where it begins with that path.
     fn past(self, path: &[u8]) -> Rest<'a>
-        ensures { rest_of result ≡ record (rest_of self.entry) { entries = past path.now self.entry.entries.now } }
+        ensures { rest_of result
+            ≡ record (rest_of self.entry) { entries = past path.now self.entry.entries.now } }
     {
         match self.entries {
             [first, later @ ..] if first.path.as_bytes() == path => Rest {

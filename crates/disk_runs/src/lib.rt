@@ -1,5 +1,6 @@
-//! Two small theorems over the disk model, which show that what is said of one call composes: over two
-//! files that are written in order, and over a loop of writes. docs/definitions.md has the model's words.
+//! Two small theorems over the disk model, which show that what is said of one call composes: over
+//! two files that are written in order, and over a loop of writes. docs/definitions.md has the
+//! model's words.
 #![tactic(auto)]
 
 mod appending;

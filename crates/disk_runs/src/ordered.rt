@@ -6,8 +6,8 @@ ghost use Rattle.disk_runs.specs.Runs.{FirstBeforeSecond, AreBothWritten, IsOneO
 use room_base::Failed;
 use room_disk::{Store, write_synced};
 
-/// Writes the bytes at the front of one file, and then of another. A crash at any moment that finds the
-/// second file changed finds the first one whole.
+/// Writes the bytes at the front of one file, and then of another. A crash at any moment that finds
+/// the second file changed finds the first one whole.
 pub fn write_in_order<D: Store>(
     store: &mut D,
     first: u32,
@@ -22,7 +22,8 @@ pub fn write_in_order<D: Store>(
     ensures written { Told (D.view store.old).tells (OnOk result
         (AreBothWritten first second bytes.now (D.view store.old) (D.view store.new))) }
     ensures left { Told (D.view store.old).tells
-        (Leaves (D.view store.old) (D.view store.new) (OthersLeft (IsOneOf first second) (D.view store.old))) }
+        (Leaves (D.view store.old) (D.view store.new)
+        (OthersLeft (IsOneOf first second) (D.view store.old))) }
     ensures moments { Told (D.view store.old).tells (Settled (D.view store.old) first
         → Settled (D.view store.old) second
         → Leaves (D.view store.old) (D.view store.new)

@@ -20,17 +20,20 @@ pub record IsRestorable (row : Record) : Type 0 where
 -- a record is usable where it is ready and stands alone or on a usable one
 pub data Usable (rows : List Record) : Record → Type 0 where
   alone : (row : Record) → IsRestorable row → row.base.0 ≡ 0 → Usable rows row
-  based : (row base : Record) → IsRestorable row → find_record row.base.0 rows ≡ Some base → Usable rows base → Usable rows row
+  based : (row base : Record) → IsRestorable row → find_record row.base.0 rows ≡ Some base
+      → Usable rows base → Usable rows row
 
 -- a usable record of this client and set whose level has a rank below the given one
-pub record CanBeBase (rows : List Record) (client set : List ℕ) (below : ℕ) (row : Record) : Type 0 where
+pub record CanBeBase (rows : List Record) (client set : List ℕ) (below : ℕ)
+    (row : Record) : Type 0 where
   pub usable : Usable rows row
   pub client_is : row.client ≡ client
   pub set_is : row.set ≡ set
   pub rank : row.level < below
 
 -- the ssid is that of such a record
-pub record IsBaseSsid (rows : List Record) (client set : List ℕ) (below : ℕ) (ssid : ℕ) : Type 0 where
+pub record IsBaseSsid (rows : List Record) (client set : List ℕ) (below : ℕ)
+    (ssid : ℕ) : Type 0 where
   pub row : Record
   pub found : find_record ssid rows ≡ Some row
   pub is : CanBeBase rows client set below row

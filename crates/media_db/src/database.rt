@@ -1,7 +1,12 @@
-ghost use Rattle.std.specs.Prelude.{◌≡◌, ◌+◌, ◌<◌, ◌≤◌, ◌⊎◌, ◌^◌, [], OnOk, IfOk, IfSome, IsSome, length, option_copied, vec_capacity};
+ghost use Rattle.std.specs.Prelude.{◌≡◌, ◌+◌, ◌<◌, ◌≤◌, ◌⊎◌, ◌^◌, [], OnOk, IfOk, IfSome, IsSome};
+ghost use Rattle.std.specs.Prelude.{length, option_copied, vec_capacity};
 ghost use Rattle.std.specs.Option.{ForSome};
-ghost use Rattle.media_db.specs.Edits.{aborted, amended, drop_copies_on, finished, has_copy_if_complete, purged_by, with_begun_copy, with_copy_removed, with_done_copy, without_copies_on};
-ghost use Rattle.media_db.specs.Rows.{AreRecords, AreVolumes, HasLowerBase, find_record, find_volume, put_row, put_volume, remove_row, remove_volume, volume_on, with_edit};
+ghost use Rattle.media_db.specs.Edits.{aborted, amended, drop_copies_on, finished};
+ghost use Rattle.media_db.specs.Edits.{has_copy_if_complete, purged_by, with_begun_copy};
+ghost use Rattle.media_db.specs.Edits.{with_copy_removed, with_done_copy, without_copies_on};
+ghost use Rattle.media_db.specs.Rows.{AreRecords, AreVolumes, HasLowerBase, find_record};
+ghost use Rattle.media_db.specs.Rows.{find_volume, put_row, put_volume, remove_row, remove_volume};
+ghost use Rattle.media_db.specs.Rows.{volume_on, with_edit};
 ghost use Rattle.media_db.specs.Usable.{IsLastBase};
 
 use crate::place::{find_record_in, record_place, volume_place};
@@ -88,8 +93,8 @@ impl MediaDb {
         self.volumes.iter().find(|volume| volume.cart.0 == cart.0)
     }
 
-    /// The greatest ssid of the client's set that a save whose level has the rank `below` can stand on:
-    /// its record is usable, and its level has a lesser rank.
+    /// The greatest ssid of the client's set that a save whose level has the rank `below` can stand
+    /// on: its record is usable, and its level has a lesser rank.
     pub fn last_usable(&self, client: &Name, set: &Name, below: u8) -> Option<Ssid>
         ensures { IsLastBase self.now.records client.now set.now below result }
     {

@@ -1,8 +1,13 @@
 //! Edits of one record, in place. None takes memory.
 
-ghost use Rattle.std.specs.Prelude.{◌≡◌, ◌==◌, ◌+◌, ◌<◌, ◌^◌, [], IfSome, length, position, vec_capacity};
+ghost use Rattle.std.specs.Prelude.{◌≡◌, ◌==◌, ◌+◌, ◌<◌, ◌^◌, [], IfSome, length, position};
+ghost use Rattle.std.specs.Prelude.{vec_capacity};
 ghost use Rattle.std.specs.List.{list_any};
-ghost use Rattle.media_db.specs.Edits.{aborted, amended, copies_off, finished, has_copy_if_complete, has_done, is_complete, is_done, is_done_on, purged_by, with_begun_copy, with_copy_done, with_copy_removed, with_done_copy, without_copies_on, without_copy};
+ghost use Rattle.media_db.specs.Edits.{aborted, amended, copies_off, finished};
+ghost use Rattle.media_db.specs.Edits.{has_copy_if_complete, has_done, is_complete, is_done};
+ghost use Rattle.media_db.specs.Edits.{is_done_on, purged_by, with_begun_copy, with_copy_done};
+ghost use Rattle.media_db.specs.Edits.{with_copy_removed, with_done_copy, without_copies_on};
+ghost use Rattle.media_db.specs.Edits.{without_copy};
 
 use crate::{CopyState, Record, RecordState, Section, SetCopy};
 use room_base::{CopyNo, Items, Moment, Volid};

@@ -7,8 +7,11 @@ ghost use Rattle.save_stream.specs.Fields.{Fields};
 ghost use Rattle.media_db.specs.declared.copies.SetCopy.{SetCopy};
 ghost use Rattle.media_db.specs.declared.records.Record.{Record};
 ghost use Rattle.media_db.specs.declared.volumes.VolumeRec.{VolumeRec};
-ghost use Rattle.media_db.specs.Edits.{drop_copies_on, has_copy_if_complete, is_done_on, without_copies_on};
-ghost use Rattle.media_db.specs.Rows.{AreRecords, AreVolumes, IsLeastOn, find_record, find_volume, put_row, put_volume, remove_row, remove_volume, update_row, volume_on};
+ghost use Rattle.media_db.specs.Edits.{drop_copies_on, has_copy_if_complete, is_done_on};
+ghost use Rattle.media_db.specs.Edits.{without_copies_on};
+ghost use Rattle.media_db.specs.Rows.{AreRecords, AreVolumes, IsLeastOn, find_record, find_volume};
+ghost use Rattle.media_db.specs.Rows.{put_row, put_volume, remove_row, remove_volume, update_row};
+ghost use Rattle.media_db.specs.Rows.{volume_on};
 ghost use Rattle.media_db.specs.Streams.{from_stream, head_of};
 
 /// What was put is found, and at every other number what was found before.

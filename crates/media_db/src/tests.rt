@@ -4,13 +4,13 @@ use save_stream::Level;
 use std::alloc::Global;
 use std::test::*;
 
-// A record's ssid, the rank of its level, its base, its state, whether it is purged, and the state of
-// its copy.
+// A record's ssid, the rank of its level, its base, its state, whether it is purged, and the state
+// of its copy.
 type Row = (u64, u8, u64, RecordState, bool, CopyState);
 
 // A full save, an incremental one on it, one of level 5 on the full one, and an incremental one on
-// that. On the last one stand sets that no save can stand on: a purged one, one without a done copy,
-// one that was given up and one that goes on; and on the purged one a complete one.
+// that. On the last one stand sets that no save can stand on: a purged one, one without a done
+// copy, one that was given up and one that goes on; and on the purged one a complete one.
 static ROWS: [Row; 9] = [
     (1, 0, 0, RecordState::Complete, false, CopyState::Done),
     (2, 10, 1, RecordState::Complete, false, CopyState::Done),

@@ -8,7 +8,8 @@ use crate::place::find_record_in;
 use crate::{CopyState, Record, RecordState};
 use room_base::{Name, Ssid};
 
-// The greatest ssid of a usable record of the client and set whose level has a rank below the given one.
+// The greatest ssid of a usable record of the client and set whose level has a rank below the given
+// one.
 pub(crate) fn last_base(records: &[Record], client: &Name, set: &Name, below: u8) -> Option<Ssid>
     requires { AreRecords records.now }
     ensures { IsLastBase records.now client.now set.now below result }

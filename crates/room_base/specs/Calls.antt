@@ -1,5 +1,6 @@
 -- Objects in memory: the calls made of them, and those that are to fail.
-use Rattle.std.specs.Prelude.{◌≡◌, ◌⊎◌, ℕ, true, List, Contains, Result, IsOk, IsErr, is_err, if◌then◌else◌}
+use Rattle.std.specs.Prelude.{◌≡◌, ◌⊎◌, ℕ, true, List, Contains, Result, IsOk, IsErr, is_err}
+use Rattle.std.specs.Prelude.{if◌then◌else◌}
 use Rattle.room_base.specs.Faults.{risen}
 use Rattle.room_base.specs.Outside.{SourceView, SinkView, ClockView}
 use Rattle.room_base.specs.declared.numbers.Moment.{Moment}
@@ -22,9 +23,11 @@ abbrev pub faults_after : {T E : Type 0} → Result T E → ℕ → ℕ
 faults_after answer before = if is_err answer then risen before else before
 
 -- A call fails where it is listed. Any other fails only for want of memory, which is counted apart.
-pub record FailsAsListed {T E : Type 0} (calls : Calls) (before now : ℕ) (answer : Result T E) : Type 0 where
+pub record FailsAsListed {T E : Type 0} (calls : Calls) (before now : ℕ)
+    (answer : Result T E) : Type 0 where
   pub listed : FailsNext calls → IsErr answer × (now ≡ before)
-  pub unlisted : (FailsNext calls → ⊥) → (IsOk answer × (now ≡ before)) ⊎ (IsErr answer × (now ≡ risen before))
+  pub unlisted : (FailsNext calls → ⊥)
+      → (IsOk answer × (now ≡ before)) ⊎ (IsErr answer × (now ≡ risen before))
 
 -- a source in memory
 pub record SourceInMemory : Type 0 where
@@ -34,7 +37,12 @@ pub record SourceInMemory : Type 0 where
   pub faults : ℕ
 
 abbrev pub told_source : SourceInMemory → SourceView
-told_source source = record { tells = true; taken = source.taken; left = source.left; faults = source.faults }
+told_source source = record {
+  tells = true;
+  taken = source.taken;
+  left = source.left;
+  faults = source.faults;
+}
 
 -- a sink in memory; `short` counts the faults that were want of memory
 pub record SinkInMemory : Type 0 where

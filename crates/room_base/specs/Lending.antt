@@ -10,5 +10,6 @@ abbrev pub list_row : RattleType → RattleType
 list_row T = vec.the_row T global.the_row ghosts
 
 -- the lender ends as the items of the list that was left behind r
-abbrev pub LendsItems : (T : RattleType) → MutBor (items.the_row T).Denot → MutBor (list_row T).Denot → Fml
+abbrev pub LendsItems : (T : RattleType) → MutBor (items.the_row T).Denot
+    → MutBor (list_row T).Denot → Fml
 LendsItems T s r = Lends (items.the_row T) (list_row T) s r (λ v. v.items)

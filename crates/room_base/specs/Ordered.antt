@@ -1,5 +1,7 @@
--- Lists in which the keys of the items ascend: look-ups by a key, and updates of the item that has it.
-use Rattle.std.specs.Prelude.{◌≡◌, ℕ, ◌<◌, ◌≤◌, List, [], ◌∷◌, length, filter, not, if◌then◌else◌, Option, Result, Ok, Err}
+-- Lists in which the keys of the items ascend: look-ups by a key, and updates of the item that has
+-- it.
+use Rattle.std.specs.Prelude.{◌≡◌, ℕ, ◌<◌, ◌≤◌, List, [], ◌∷◌, length, filter, not, if◌then◌else◌}
+use Rattle.std.specs.Prelude.{Option, Result, Ok, Err}
 use Rattle.std.specs.List.{find, HoldsAt, AllWithin}
 use Rattle.std.specs.Ordering.{eq_by_cmp, match_ordering}
 use Rattle.std.specs.declared.cmp.Ordering.{Ordering}

@@ -1,5 +1,6 @@
 -- What is told of a source, a sink and a clock, and what each call does where it is told.
-use Rattle.std.specs.Prelude.{◌≡◌, ℕ, ◌≤◌, ◌<◌, Bool, IsTrue, List, [], ◌∷◌, ◌++◌, length, take, drop, Result, Ok, Err}
+use Rattle.std.specs.Prelude.{◌≡◌, ℕ, ◌≤◌, ◌<◌, Bool, IsTrue, List, [], ◌∷◌, ◌++◌, length, take}
+use Rattle.std.specs.Prelude.{drop, Result, Ok, Err}
 use Rattle.room_base.specs.Faults.{HasCause}
 use Rattle.room_base.specs.declared.numbers.Moment.{Moment}
 use Rattle.room_base.specs.declared.fault.Failed.{Failed}
@@ -27,7 +28,8 @@ pub record ClockView : Type 0 where
 abbrev pub Told : Bool → Type 0 → Type 0
 Told tells P = IsTrue tells → P
 
--- so many bytes moved from the front of those left to the end of those taken, and to the front of `into`
+-- so many bytes moved from the front of those left to the end of those taken, and to the front of
+-- `into`
 pub record Moves (old new : SourceView) (into : List ℕ) (count : ℕ) : Type 0 where
   pub enough : count ≤ length old.left
   pub taken : new.taken ≡ old.taken ++ take count old.left
@@ -55,7 +57,8 @@ Writes old new piece (Ok _) = new ≡ old ++ piece
 Writes old new piece (Err _) = AddsFront old new piece
 
 -- a writing of the whole text: no count of faults falls, and where it failed the count rose
-pub record WritesText {T : Type 0} (text : List ℕ) (old new : SinkView) (answer : Result T Failed) : Type 0 where
+pub record WritesText {T : Type 0} (text : List ℕ) (old new : SinkView)
+    (answer : Result T Failed) : Type 0 where
   pub cause : HasCause old.faults new.faults answer
   pub tells : new.tells ≡ old.tells
   pub written : Told old.tells (Writes old.written new.written text answer)

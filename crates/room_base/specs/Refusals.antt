@@ -117,7 +117,8 @@ refusal_fields (refusals.PieceTooLong limit) = number_named (codes "limit") limi
 refusal_fields (refusals.BadStream offset) = number_named (codes "offset") offset ∷ []
 refusal_fields (refusals.NotEnded offset) = number_named (codes "offset") offset ∷ []
 refusal_fields (refusals.WrongLength kept) = number_named (codes "kept") kept ∷ []
-refusal_fields (refusals.WrongDigest kept) = record { name = codes "kept"; value = OfDigest kept } ∷ []
+refusal_fields (refusals.WrongDigest kept) =
+    record { name = codes "kept"; value = OfDigest kept } ∷ []
 refusal_fields (refusals.SlotEmpty slot) = number_named (codes "slot") slot ∷ []
 refusal_fields (refusals.DriveBusy drive volid) =
     number_named (codes "drive") drive ∷ number_named (codes "volid") volid.0 ∷ []

@@ -1,5 +1,6 @@
 -- What bytes are a name or a path.
-use Rattle.std.specs.Prelude.{◌≡◌, ◌≢◌, ◌≤◌, ◌<◌, ℕ, List, length, slice_get, Result, Ok, Err, Some, All}
+use Rattle.std.specs.Prelude.{◌≡◌, ◌≢◌, ◌≤◌, ◌<◌, ℕ, List, length, slice_get, Result, Ok, Err, Some}
+use Rattle.std.specs.Prelude.{All}
 use Rattle.std.specs.Str.{IsUtf8}
 use Rattle.room_base.specs.declared.name.NameFault.{NameFault}
 use Rattle.room_base.specs.declared.name.NameFault.TheVariants.{Length, NotText, Memory}
@@ -20,8 +21,10 @@ IsName bytes = IsUtf8 bytes × All IsPrintable bytes
 abbrev pub IsPathText : List ℕ → Type 0
 IsPathText bytes = IsUtf8 bytes × (slice_get bytes 0 ≡ Some 0x2F)
 
--- A text is read exactly where it has a length and a form that are allowed. The length is judged first.
-abbrev pub ReadsText : (List ℕ → Type 0) → (List ℕ → Type 0) → List ℕ → Result (List ℕ) NameFault → Type 0
+-- A text is read exactly where it has a length and a form that are allowed. The length is judged
+-- first.
+abbrev pub ReadsText : (List ℕ → Type 0) → (List ℕ → Type 0) → List ℕ → Result (List ℕ) NameFault
+    → Type 0
 ReadsText IsSized IsText bytes (Ok name) = (name ≡ bytes) × IsSized bytes × IsText bytes
 ReadsText IsSized IsText bytes (Err Length) = ¬ (IsSized bytes)
 ReadsText IsSized IsText bytes (Err NotText) = IsSized bytes × ¬ (IsText bytes)

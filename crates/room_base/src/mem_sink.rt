@@ -8,8 +8,8 @@ use crate::{Failed, Sink};
 use std::alloc::Global;
 use std::marker::Model;
 
-/// A sink in memory, whose listed calls fail. A piece for which it finds no memory is a fault of it too,
-/// which `short` counts apart.
+/// A sink in memory, whose listed calls fail. A piece for which it finds no memory is a fault of it
+/// too, which `short` counts apart.
 #[derive(Debug, Drop)]
 pub struct MemSink {
     bytes: Vec<u8>,

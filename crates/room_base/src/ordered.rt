@@ -1,7 +1,8 @@
-//! Lists in which the keys of the items ascend. The laws of look-ups and updates are functions with an
-//! empty body, whose contract is the law.
+//! Lists in which the keys of the items ascend. The laws of look-ups and updates are functions with
+//! an empty body, whose contract is the law.
 
-ghost use Rattle.std.specs.Prelude.{◌≡◌, ◌<◌, ◌≤◌, List, Contains, Some, None, if◌then◌else◌, vec_len, vec_capacity};
+ghost use Rattle.std.specs.Prelude.{◌≡◌, ◌<◌, ◌≤◌, List, Contains, Some, None, if◌then◌else◌};
+ghost use Rattle.std.specs.Prelude.{vec_len, vec_capacity};
 ghost use Rattle.std.specs.List.{insert};
 ghost use Rattle.std.specs.Option.{option_map};
 ghost use Rattle.std.specs.Ordering.{eq_by_cmp};

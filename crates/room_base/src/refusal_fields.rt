@@ -1,7 +1,9 @@
 //! What is said of a refusal: its number, its name, and its fields.
 
 ghost use Rattle.std.specs.Prelude.{◌≡◌};
-ghost use Rattle.room_base.specs.Refusals.{refusal_number, refusal_name, refusal_fields, list_of_fields, value_of, kind_and_name, OfNumber, OfText, OfDigest, OfSsids};
+ghost use Rattle.room_base.specs.Refusals.{refusal_number, refusal_name, refusal_fields};
+ghost use Rattle.room_base.specs.Refusals.{list_of_fields, value_of, kind_and_name, OfNumber};
+ghost use Rattle.room_base.specs.Refusals.{OfText, OfDigest, OfSsids};
 
 use crate::{Name, Refusal, Ssid};
 

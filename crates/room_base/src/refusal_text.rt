@@ -4,15 +4,17 @@ ghost use Rattle.std.specs.Fmt.{decimal};
 ghost use Rattle.std.specs.List.{flat_map};
 ghost use Rattle.hex.specs.Hex.{encode_lower};
 ghost use Rattle.room_base.specs.Outside.{WritesText};
-ghost use Rattle.room_base.specs.Refusals.{value_of, named_value, list_of_fields, field_text, value_text, ssids_text, ssid_behind, title_text, refusal_text};
+ghost use Rattle.room_base.specs.Refusals.{value_of, named_value, list_of_fields, field_text};
+ghost use Rattle.room_base.specs.Refusals.{value_text, ssids_text, ssid_behind, title_text};
+ghost use Rattle.room_base.specs.Refusals.{refusal_text};
 
 use crate::refusal_fields::{Field, FieldValue, Fields};
 use crate::{Failed, Refusal, Sink, Ssid, write_parts};
 use itoa::Buffer;
 
-/// Writes a refusal's number, its name, and ` field=value` for each of its fields, with no line end. A
-/// digest is written in hexadecimal digits, a list of sessions with commas between. After `Failed` a
-/// front of the text has been written.
+/// Writes a refusal's number, its name, and ` field=value` for each of its fields, with no line
+/// end. A digest is written in hexadecimal digits, a list of sessions with commas between. After
+/// `Failed` a front of the text has been written.
 pub fn write_refusal<W: Sink>(sink: &mut W, refusal: &Refusal) -> Result<(), Failed>
     ensures { WritesText (refusal_text refusal.now) (W.view sink.old) (W.view sink.new) result }
 {
@@ -29,7 +31,8 @@ fn write_title<W: Sink>(sink: &mut W, refusal: &Refusal) -> Result<(), Failed>
 }
 
 fn write_fields<W: Sink>(sink: &mut W, fields: &Fields<'_>) -> Result<(), Failed>
-    ensures { WritesText (flat_map field_text (list_of_fields fields.now)) (W.view sink.old) (W.view sink.new) result }
+    ensures { WritesText (flat_map field_text (list_of_fields fields.now)) (W.view sink.old)
+        (W.view sink.new) result }
 {
     match fields {
         Fields::None => write_parts(sink, &[]),
@@ -42,14 +45,16 @@ fn write_fields<W: Sink>(sink: &mut W, fields: &Fields<'_>) -> Result<(), Failed
 }
 
 fn write_field<W: Sink>(sink: &mut W, field: &Field<'_>) -> Result<(), Failed>
-    ensures { WritesText (field_text (named_value field.now)) (W.view sink.old) (W.view sink.new) result }
+    ensures { WritesText (field_text (named_value field.now)) (W.view sink.old)
+        (W.view sink.new) result }
 {
     write_parts(sink, &[b" ", field.name.as_bytes(), b"="])?;
     write_value(sink, &field.value)
 }
 
 fn write_value<W: Sink>(sink: &mut W, value: &FieldValue<'_>) -> Result<(), Failed>
-    ensures { WritesText (value_text (value_of value.now)) (W.view sink.old) (W.view sink.new) result }
+    ensures { WritesText (value_text (value_of value.now)) (W.view sink.old)
+        (W.view sink.new) result }
 {
     match value {
         FieldValue::Number(number) => write_number(sink, *number),
@@ -88,7 +93,8 @@ fn write_ssids<W: Sink>(sink: &mut W, ssids: &[Ssid]) -> Result<(), Failed>
 
 // Writes a comma and a number for each.
 fn write_other_ssids<W: Sink>(sink: &mut W, ssids: &[Ssid]) -> Result<(), Failed>
-    ensures { WritesText (flat_map ssid_behind ssids.now) (W.view sink.old) (W.view sink.new) result }
+    ensures { WritesText (flat_map ssid_behind ssids.now) (W.view sink.old)
+        (W.view sink.new) result }
 {
     for ssid in ssids {
         let mut digits = Buffer::new();

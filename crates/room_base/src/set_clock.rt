@@ -7,7 +7,8 @@ use crate::calls::{CallCount, risen_count};
 use crate::{Clock, Failed, Moment};
 use std::marker::Model;
 
-/// A clock that gives the moments of a list in turn, the last one again and again. Its listed calls fail.
+/// A clock that gives the moments of a list in turn, the last one again and again. Its listed calls
+/// fail.
 #[derive(Debug, Drop)]
 pub struct SetClock {
     moments: Vec<Moment>,

@@ -10,8 +10,8 @@ pub trait Sink {
     /// What is told of the sink, and its count of faults.
     ghost view: { Self → SinkView };
 
-    /// What a call of `put` may leave of whatever else the object is: an object that is a source too
-    /// says here that its bytes taken stay.
+    /// What a call of `put` may leave of whatever else the object is: an object that is a source
+    /// too says here that its bytes taken stay.
     ghost puts_alone: { Self → Self → Type 0 };
 
     /// Writes the first bytes of the piece and answers how many: at least one of a piece that isn't
@@ -50,8 +50,8 @@ pub fn write_all<W: Sink>(sink: &mut W, bytes: &[u8]) -> Result<(), Failed>
     Ok(())
 }
 
-/// Writes the parts, one behind the other. After `Failed` a front of them has been written. Takes no
-/// memory.
+/// Writes the parts, one behind the other. After `Failed` a front of them has been written. Takes
+/// no memory.
 pub fn write_parts<W: Sink>(sink: &mut W, parts: &[&[u8]]) -> Result<(), Failed>
     ensures written { WritesText (flat_map (λ part. part.now) parts.now)
         (W.view sink.old) (W.view sink.new) result }

@@ -19,7 +19,8 @@ pub trait Source {
         ensures within { IfOk result (λ count. count ≤ length into.old) }
         ensures cause { HasCause (view self.old).faults (view self.new).faults result }
         ensures tells { (view self.new).tells ≡ (view self.old).tells }
-        ensures moved { Told (view self.old).tells (TakesBytes (view self.old) (view self.new) into.new result) }
+        ensures moved { Told (view self.old).tells
+            (TakesBytes (view self.old) (view self.new) into.new result) }
         ensures alone { takes_alone self.old self.new };
 
     /// Where nothing was taken the rest of the object stays.

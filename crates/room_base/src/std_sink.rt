@@ -9,8 +9,8 @@ use std::io::{ErrorKind, Write};
 /// How often a write that was interrupted by a signal is tried again.
 const TRIES: u32 = 64;
 
-/// A writer of the system as a sink, such as standard output. It tells nothing of its bytes, and keeps
-/// none back: a writer that does so is to be flushed by its owner.
+/// A writer of the system as a sink, such as standard output. It tells nothing of its bytes, and
+/// keeps none back: a writer that does so is to be flushed by its owner.
 #[derive(Debug, Drop)]
 pub struct StdSink<W: Write> {
     writer: W,

@@ -25,7 +25,12 @@ impl<R: Read> StdSource<R> {
 }
 
 impl<R: Read> Source for StdSource<R> {
-    ghost view = { λ source. record { tells = false; taken = []; left = []; faults = source.faults } };
+    ghost view = { λ source. record {
+      tells = false;
+      taken = [];
+      left = [];
+      faults = source.faults;
+    } };
 
     ghost takes_alone = { λ _ _. ⊤ };
 

@@ -28,29 +28,34 @@ Images disk image = (file : ℕ) → disk.leaves file (image file)
 abbrev pub EachSince : DiskView → ℕ → (Image → Type 0) → Type 0
 EachSince disk moment P = (image : Image) → disk.since moment image → P image
 
--- What makes it a disk: an image now is one since an earlier moment, since now there is no other, and what
--- it reads is one of its images.
+-- What makes it a disk: an image now is one since an earlier moment, since now there is no other,
+-- and what it reads is one of its images.
 pub record IsDisk (disk : DiskView) : Type 0 where
-  pub counts_now : (moment : ℕ) (image : Image) → moment ≤ disk.moment → Images disk image → disk.since moment image
+  pub counts_now : (moment : ℕ) (image : Image) → moment ≤ disk.moment → Images disk image
+      → disk.since moment image
   pub only_now : (image : Image) → disk.since disk.moment image → Images disk image
   pub reads_one : (file : ℕ) → disk.leaves file (disk.reads file)
 
--- A crash at any moment of the run leaves what it might have left before the run, or an image with P.
+-- A crash at any moment of the run leaves what it might have left before the run, or an image with
+-- P.
 pub record Leaves (old new : DiskView) (P : Image → Type 0) : Type 0 where
   pub later : old.moment ≤ new.moment
-  pub each : (moment : ℕ) (image : Image) → moment ≤ old.moment → new.since moment image → old.since moment image ⊎ P image
+  pub each : (moment : ℕ) (image : Image) → moment ≤ old.moment → new.since moment image
+      → old.since moment image ⊎ P image
 
 -- every file reads as before, and no image was added
 pub record Quiet (old new : DiskView) : Type 0 where
   pub reads : (file : ℕ) → new.reads file ≡ old.reads file
   pub leaves : (file : ℕ) (bytes : List ℕ) → new.leaves file bytes → old.leaves file bytes
   pub later : old.moment ≤ new.moment
-  pub since : (moment : ℕ) (image : Image) → moment ≤ old.moment → new.since moment image → old.since moment image
+  pub since : (moment : ℕ) (image : Image) → moment ≤ old.moment → new.since moment image
+      → old.since moment image
 
 -- each other file reads as before, and gains no image
 pub record Others (file : ℕ) (old new : DiskView) : Type 0 where
   pub reads : (other : ℕ) → other ≢ file → new.reads other ≡ old.reads other
-  pub leaves : (other : ℕ) (bytes : List ℕ) → other ≢ file → new.leaves other bytes → old.leaves other bytes
+  pub leaves : (other : ℕ) (bytes : List ℕ) → other ≢ file → new.leaves other bytes
+      → old.leaves other bytes
 
 -- the same of each file that isn't one of these
 pub record OthersThan (IsOne : ℕ → Type 0) (old new : DiskView) : Type 0 where
@@ -72,12 +77,13 @@ abbrev pub Settled : DiskView → ℕ → Type 0
 Settled disk file = (bytes : List ℕ) → disk.leaves file bytes → bytes ≡ disk.reads file
 
 -- no count falls, and a fault is answered only where the count of this file rose
-pub record FileCause {T E : Type 0} (file : ℕ) (old new : DiskView) (answer : Result T E) : Type 0 where
+pub record FileCause {T E : Type 0} (file : ℕ) (old new : DiskView)
+    (answer : Result T E) : Type 0 where
   pub later : (other : ℕ) → old.faults other ≤ new.faults other
   pub cause : OnErr answer (Rose (old.faults file) (new.faults file))
 
--- No count falls, and where the answer is that the disk failed, the count of this file rose: `failed` says
--- that it is, as `result ≡ Err faults.Failed`, where there are other errors.
+-- No count falls, and where the answer is that the disk failed, the count of this file rose:
+-- `failed` says that it is, as `result ≡ Err faults.Failed`, where there are other errors.
 pub record FaultCause (file : ℕ) (old new : DiskView) (failed : Type 0) : Type 0 where
   pub later : (other : ℕ) → old.faults other ≤ new.faults other
   pub cause : failed → Rose (old.faults file) (new.faults file)

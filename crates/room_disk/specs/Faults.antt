@@ -1,5 +1,6 @@
 -- The counts of faults, one for each of the files 0 to 257, and one for all others.
-use Rattle.std.specs.Prelude.{ℕ, ◌≤◌, List, min, replicate, Result, is_err, slice_index, slice_set, if◌then◌else◌}
+use Rattle.std.specs.Prelude.{ℕ, ◌≤◌, List, min, replicate, Result, is_err, slice_index, slice_set}
+use Rattle.std.specs.Prelude.{if◌then◌else◌}
 use Rattle.room_base.specs.Faults.{risen, Rose}
 
 -- the place of a file's count

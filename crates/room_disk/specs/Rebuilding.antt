@@ -1,4 +1,5 @@
--- How the files of a store in memory are made those that a crash leaves, in the room that they have.
+-- How the files of a store in memory are made those that a crash leaves, in the room that they
+-- have.
 use Rattle.std.specs.Prelude.{◌≡◌, ◌≤◌, List, length}
 use Rattle.room_disk.specs.declared.disk_event.DiskEvent.{DiskEvent}
 use Rattle.room_disk.specs.declared.mem_file.MemFile.{MemFile}

@@ -1,6 +1,7 @@
 ghost use Rattle.std.specs.Prelude.{◌≡◌, ◌≤◌, ℕ, OnErr};
 ghost use Rattle.room_base.specs.Faults.{Rose};
-ghost use Rattle.room_disk.specs.Faults.{faults_on, no_faults, one_more_fault, counts_after, HasRisen};
+ghost use Rattle.room_disk.specs.Faults.{faults_on, no_faults, one_more_fault, counts_after};
+ghost use Rattle.room_disk.specs.Faults.{HasRisen};
 
 use room_base::{Failed, risen_count};
 use std::marker::Model;
@@ -8,7 +9,8 @@ use std::marker::Model;
 /// The number of files that have a count of their own: the journal's two and 256 cartridges.
 const FILES: usize = 258;
 
-/// How often calls on each file have failed. Files from 258 on share one count, so that none needs memory.
+/// How often calls on each file have failed. Files from 258 on share one count, so that none needs
+/// memory.
 #[derive(Debug, Drop)]
 pub struct FaultCounts {
     counts: [u64; FILES + 1],

@@ -1,4 +1,5 @@
-ghost use Rattle.std.specs.Prelude.{◌≡◌, ◌+◌, ◌-◌, ◌≤◌, ◌++◌, length, max, take, drop, replicate, OnOk, OnErr};
+ghost use Rattle.std.specs.Prelude.{◌≡◌, ◌+◌, ◌-◌, ◌≤◌, ◌++◌, length, max, take, drop, replicate};
+ghost use Rattle.std.specs.Prelude.{OnOk, OnErr};
 ghost use Rattle.room_disk.specs.Crash.{overlaid};
 ghost use Rattle.room_disk.specs.Held.{Held, blank};
 
@@ -9,8 +10,8 @@ use std::marker::Model;
 /// What a crash may leave where bytes were not synced: no letter that opens a region.
 const SPOILED: u8 = 0xFF;
 
-/// A file's bytes. They stand at the front of room that is never given back, so that only `grow` takes
-/// memory.
+/// A file's bytes. They stand at the front of room that is never given back, so that only `grow`
+/// takes memory.
 #[derive(Debug, Drop)]
 pub struct FileBytes {
     held: Vec<u8>,
@@ -23,7 +24,10 @@ impl Model for FileBytes {
 
     ghost Value = { Held };
 
-    ghost view = { λ file. record { bytes = take file.len file.held.items; room = vec_len file.held } };
+    ghost view = { λ file. record {
+      bytes = take file.len file.held.items;
+      room = vec_len file.held;
+    } };
 
     ghost invariant = { λ file. file.len ≤ vec_len file.held };
 }
@@ -76,7 +80,8 @@ impl FileBytes {
 
     /// Fills what stands from `to` on with 0xFF.
     pub fn spoil_end(&mut self, to: usize)
-        ensures bytes { self.new.bytes ≡ take to self.old.bytes ++ replicate (length self.old.bytes - to) 0xFF }
+        ensures bytes { self.new.bytes
+            ≡ take to self.old.bytes ++ replicate (length self.old.bytes - to) 0xFF }
         ensures room { self.new.room ≡ self.old.room }
     {
         if to < self.len {

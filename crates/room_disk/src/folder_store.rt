@@ -19,17 +19,17 @@ const TRIES: u32 = 64;
 /// The last place that a file of the system can have.
 const MAX_OFFSET: u64 = i64::MAX as u64;
 
-/// A folder of the system as a disk: `journal.0`, `journal.1` and `cart.001` to `cart.256` are its files 0
-/// to 257. It tells nothing of their bytes. A file that isn't there is empty, and only a write makes one.
-/// Files above 257 have no name, so every call on them fails.
+/// A folder of the system as a disk: `journal.0`, `journal.1` and `cart.001` to `cart.256` are its
+/// files 0 to 257. It tells nothing of their bytes. A file that isn't there is empty, and only a
+/// write makes one. Files above 257 have no name, so every call on them fails.
 #[derive(Drop)]
 pub struct FolderStore<R: Files<File = File>> {
     rt: R,
     alloc: Global,
     folder: Name,
     opened: BTreeMap<u32, File>,
-    // Whether the names of all files are on the disk for sure: none is known to be before the first sync
-    // of the folder, and none that was made since the last.
+    // Whether the names of all files are on the disk for sure: none is known to be before the first
+    // sync of the folder, and none that was made since the last.
     named: bool,
     faults: FaultCounts,
 }

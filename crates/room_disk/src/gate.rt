@@ -1,6 +1,8 @@
 ghost use Rattle.std.specs.Prelude.{◌+◌, ◌<◌, ◌≤◌, ◌^◌, [], ◌∷◌, length, OnOk};
 ghost use Rattle.room_base.specs.Outside.{Told};
-ghost use Rattle.room_disk.specs.Crash.{Overlays, Cuts, ReplacesEnd, Torn, CutShort, KeepsFront, IsGateLetter, GatedTorn, GatedPartsTorn, IsAnew, AnewTorn, all_bytes};
+ghost use Rattle.room_disk.specs.Crash.{Overlays, Cuts, ReplacesEnd, Torn, CutShort, KeepsFront};
+ghost use Rattle.room_disk.specs.Crash.{IsGateLetter, GatedTorn, GatedPartsTorn, IsAnew, AnewTorn};
+ghost use Rattle.room_disk.specs.Crash.{all_bytes};
 ghost use Rattle.room_disk.specs.Writing.{ChangesFile, WritesFile};
 
 use crate::Store;
@@ -20,8 +22,8 @@ pub fn write_unsynced<D: Store>(
     store.write_at(file, at, bytes)
 }
 
-/// Writes the parts one behind the other from `at` on, of which nothing need be on the disk before the
-/// file is synced.
+/// Writes the parts one behind the other from `at` on, of which nothing need be on the disk before
+/// the file is synced.
 pub fn write_parts<D: Store>(
     store: &mut D,
     file: u32,
@@ -51,12 +53,7 @@ pub fn cut_unsynced<D: Store>(store: &mut D, file: u32, to: u64) -> Result<(), F
 }
 
 /// Writes the bytes and syncs the file.
-pub fn write_synced<D: Store>(
-    store: &mut D,
-    file: u32,
-    at: u64,
-    bytes: &[u8],
-) -> Result<(), Failed>
+pub fn write_synced<D: Store>(store: &mut D, file: u32, at: u64, bytes: &[u8]) -> Result<(), Failed>
     // A crash leaves the write whole, torn or not begun.
     ensures { WritesFile file (Overlays at bytes.now) (Torn at bytes.now)
         (D.view store.old) (D.view store.new) result }
@@ -73,8 +70,8 @@ pub fn open_gate<D: Store>(store: &mut D, file: u32, at: u64, letter: u8) -> Res
     write_synced(store, file, at, &[letter])
 }
 
-/// Writes a gate letter at `at` and `rest` behind it, so that the letter is on the disk only once all of
-/// `rest` is: `rest` is written and synced first, and then the letter is written and synced.
+/// Writes a gate letter at `at` and `rest` behind it, so that the letter is on the disk only once
+/// all of `rest` is: `rest` is written and synced first, and then the letter is written and synced.
 pub fn write_gated<D: Store>(
     store: &mut D,
     file: u32,
@@ -103,7 +100,8 @@ pub fn write_parts_gated<D: Store>(
     requires inside { Told (D.view store.old).tells (at < length ((D.view store.old).reads file)) }
     // A crash leaves no open gate before bytes that aren't there.
     ensures { WritesFile file (Overlays at (letter ∷ all_bytes parts.now))
-        (GatedPartsTorn at letter (all_bytes parts.now)) (D.view store.old) (D.view store.new) result }
+        (GatedPartsTorn at letter (all_bytes parts.now)) (D.view store.old)
+        (D.view store.new) result }
 {
     write_parts_synced(store, file, at + 1, parts)?;
     open_gate(store, file, at, letter)
@@ -124,9 +122,9 @@ fn write_parts_synced<D: Store>(
     store.sync(file)
 }
 
-/// Writes a file anew: the gate letter, which its first byte is, and the parts behind it. The gate is
-/// closed first, and opened only once all parts are on the disk. A crash at any moment leaves the file as it
-/// was, or with its gate closed, or whole.
+/// Writes a file anew: the gate letter, which its first byte is, and the parts behind it. The gate
+/// is closed first, and opened only once all parts are on the disk. A crash at any moment leaves
+/// the file as it was, or with its gate closed, or whole.
 pub fn write_anew<D: Store>(
     store: &mut D,
     file: u32,
@@ -134,7 +132,8 @@ pub fn write_anew<D: Store>(
     parts: &[&[u8]],
 ) -> Result<(), Failed>
     requires { IsGateLetter letter }
-    ensures { WritesFile file (IsAnew letter (all_bytes parts.now)) (AnewTorn letter (all_bytes parts.now))
+    ensures { WritesFile file (IsAnew letter (all_bytes parts.now))
+        (AnewTorn letter (all_bytes parts.now))
         (D.view store.old) (D.view store.new) result }
 {
     write_synced(store, file, 0, &[0])?;
@@ -143,12 +142,7 @@ pub fn write_anew<D: Store>(
 }
 
 // Puts the parts in the place of all that stands from `at` on, and syncs the file.
-fn replace_end<D: Store>(
-    store: &mut D,
-    file: u32,
-    at: u64,
-    parts: &[&[u8]],
-) -> Result<(), Failed>
+fn replace_end<D: Store>(store: &mut D, file: u32, at: u64, parts: &[&[u8]]) -> Result<(), Failed>
     requires { Told (D.view store.old).tells (at ≤ length ((D.view store.old).reads file)) }
     ensures { WritesFile file (ReplacesEnd at (all_bytes parts.now)) (KeepsFront at)
         (D.view store.old) (D.view store.new) result }

@@ -1,4 +1,5 @@
-ghost use Rattle.std.specs.Prelude.{◌≡◌, ℕ, ◌+◌, ◌-◌, ◌<◌, ◌≤◌, ◌^◌, ◌∷◌, List, [], length, min, take, drop, OnOk, OnErr};
+ghost use Rattle.std.specs.Prelude.{◌≡◌, ℕ, ◌+◌, ◌-◌, ◌<◌, ◌≤◌, ◌^◌, ◌∷◌, List, [], length, min};
+ghost use Rattle.std.specs.Prelude.{take, drop, OnOk, OnErr};
 ghost use Rattle.room_disk.specs.Crashed.{crashed_file};
 ghost use Rattle.room_disk.specs.Past.{listed, read_after};
 ghost use Rattle.room_disk.specs.declared.disk_event.DiskEvent.TheVariants.{Written, Cut, Synced};
@@ -11,8 +12,8 @@ use room_base::{Items, Memory};
 use std::alloc::Global;
 use std::marker::Model;
 
-/// What a store in memory has recorded: its files at first, and each call that changed something. Each
-/// file's bytes are kept beside it, so that a read needs no replay.
+/// What a store in memory has recorded: its files at first, and each call that changed something.
+/// Each file's bytes are kept beside it, so that a read needs no replay.
 #[derive(Debug, Drop)]
 pub struct History {
     alloc: Global,
@@ -33,7 +34,8 @@ impl Model for History {
     } };
 
     ghost invariant = { λ history.
-        AreFilesKept (first_bytes history.files.items) (reverse history.events.items) history.files.items };
+        AreFilesKept (first_bytes history.files.items)
+        (reverse history.events.items) history.files.items };
 }
 
 impl History {
@@ -60,7 +62,8 @@ impl History {
     /// Writes the bytes from `at` on, and records that. Where there is no memory, nothing is done.
     pub fn write(&mut self, file: u32, at: usize, bytes: &[u8]) -> Result<(), Memory>
         requires { at + length bytes.now < 2 ^ 64 }
-        ensures done { OnOk result (self.new ≡ record self.old { events = Written file at bytes.now ∷ self.old.events }) }
+        ensures done { OnOk result
+            (self.new ≡ record self.old { events = Written file at bytes.now ∷ self.old.events }) }
         ensures undone { OnErr result (self.new ≡ self.old) }
     {
         let piece = Items::of(Vec::from_slice(self.alloc, bytes)?);
@@ -77,7 +80,8 @@ impl History {
 
     /// Cuts the file, and records that. Where there is no memory, nothing is done.
     pub fn cut(&mut self, file: u32, to: u64) -> Result<(), Memory>
-        ensures done { OnOk result (self.new ≡ record self.old { events = Cut file to ∷ self.old.events }) }
+        ensures done { OnOk result
+            (self.new ≡ record self.old { events = Cut file to ∷ self.old.events }) }
         ensures undone { OnErr result (self.new ≡ self.old) }
     {
         self.events.push(DiskEvent::Cut { file, to })?;
@@ -90,18 +94,20 @@ impl History {
 
     /// Records that the file was synced. Where there is no memory, nothing is done.
     pub fn sync(&mut self, file: u32) -> Result<(), Memory>
-        ensures done { OnOk result (self.new ≡ record self.old { events = Synced file ∷ self.old.events }) }
+        ensures done { OnOk result
+            (self.new ≡ record self.old { events = Synced file ∷ self.old.events }) }
         ensures undone { OnErr result (self.new ≡ self.old) }
     {
         self.events.push(DiskEvent::Synced { file })?;
         Ok(())
     }
 
-    /// One image that a crash may leave, with nothing pending: of each event since the last sync of its file
-    /// it has this part. Takes no memory.
+    /// One image that a crash may leave, with nothing pending: of each event since the last sync of
+    /// its file it has this part. Takes no memory.
     pub fn crashed(self, part: Part) -> History
         ensures settled { result.events ≡ [] }
-        ensures image { (file : ℕ) → listed result.first file ≡ crashed_file part (listed self.first) self.events file }
+        ensures image { (file : ℕ)
+            → listed result.first file ≡ crashed_file part (listed self.first) self.events file }
     {
         let History {
             alloc,

@@ -1,5 +1,6 @@
 ghost use Rattle.std.specs.Prelude.{◌≡◌, ◌≤◌, IfOk, OnOk, MatchOption};
-ghost use Rattle.room_disk.specs.Kept.{blank_file, kept_file, HasGrown, HasGrownFiles, HasRoomBehind, HasSameFiles, IsDistinct, IsFirst, NoneHas};
+ghost use Rattle.room_disk.specs.Kept.{blank_file, kept_file, HasGrown, HasGrownFiles};
+ghost use Rattle.room_disk.specs.Kept.{HasRoomBehind, HasSameFiles, IsDistinct, IsFirst, NoneHas};
 
 use crate::file_bytes::FileBytes;
 use room_base::Memory;
@@ -38,7 +39,8 @@ impl MemFile {
 
 /// The index of the file with this number.
 pub fn position(files: &[MemFile], number: u32) -> Option<usize>
-    ensures { MatchOption result (NoneHas number files.now) (λ index. IsFirst number files.now index) }
+    ensures { MatchOption result (NoneHas number files.now)
+        (λ index. IsFirst number files.now index) }
 {
     for (index, file) in files.iter().enumerate() {
         if file.number == number {

@@ -1,4 +1,5 @@
-ghost use Rattle.std.specs.Prelude.{◌≡◌, ◌⊎◌, ◌↔◌, ℕ, ◌+◌, ◌-◌, ◌<◌, ◌≤◌, ◌^◌, ◌∷◌, List, [], length, take, drop, min, IfOk, IsOk, OnOk, OnErr, IsTrue};
+ghost use Rattle.std.specs.Prelude.{◌≡◌, ◌⊎◌, ◌↔◌, ℕ, ◌+◌, ◌-◌, ◌<◌, ◌≤◌, ◌^◌, ◌∷◌, List, []};
+ghost use Rattle.std.specs.Prelude.{length, take, drop, min, IfOk, IsOk, OnOk, OnErr, IsTrue};
 ghost use Rattle.room_base.specs.Faults.{risen};
 ghost use Rattle.room_disk.specs.Blank.{IsBlank};
 ghost use Rattle.room_disk.specs.Crash.{overlaid, Torn, CutShort};
@@ -17,8 +18,8 @@ use room_base::{CallCount, Failed, Memory, risen_count};
 use std::alloc::Global;
 use std::marker::Model;
 
-/// A disk in memory. Its listed calls fail, and it can stop for good. A call for which it finds no memory
-/// is a fault of its file too, which `short` counts apart.
+/// A disk in memory. Its listed calls fail, and it can stop for good. A call for which it finds no
+/// memory is a fault of its file too, which `short` counts apart.
 #[derive(Debug, Drop)]
 pub struct MemStore {
     past: History,
@@ -43,8 +44,8 @@ impl Model for MemStore {
 }
 
 impl MemStore {
-    /// A blank disk. `failing` holds the numbers of the calls that are to fail, counted from 1. With
-    /// `stop`, every call after so many fails.
+    /// A blank disk. `failing` holds the numbers of the calls that are to fail, counted from 1.
+    /// With `stop`, every call after so many fails.
     pub fn new(alloc: Global, failing: Vec<u64>, stop: Option<u64>) -> MemStore
         ensures new { result ≡ record {
           past = record { first = []; events = [] };
@@ -71,9 +72,9 @@ impl MemStore {
         self.short
     }
 
-    /// The disk after a crash, with nothing pending and no call that is to fail. Of what was written or
-    /// cut since the last sync of its file it has nothing (0), all (1), all ranges full of 0xFF (2), or
-    /// the first half of each write and all cuts (3).
+    /// The disk after a crash, with nothing pending and no call that is to fail. Of what was
+    /// written or cut since the last sync of its file it has nothing (0), all (1), all ranges full
+    /// of 0xFF (2), or the first half of each write and all cuts (3).
     pub fn crashed(self, choice: u8) -> MemStore
         requires { choice < 4 }
         ensures image { (file : ℕ) → (told_store result).reads file
@@ -116,7 +117,8 @@ impl MemStore {
 
     // Counts a fault of the file.
     fn fault(&mut self, file: u32) -> Failed
-        ensures exact { self.new ≡ record self.old { faults = one_more_fault file self.old.faults } }
+        ensures exact { self.new
+            ≡ record self.old { faults = one_more_fault file self.old.faults } }
         ensures risen { HasRisen file self.old.faults self.new.faults }
     {
         self.faults.rise(file);
@@ -150,7 +152,8 @@ impl Store for MemStore {
 
     ghost view = { told_store };
 
-    ghost is_disk = { λ store. past_is_disk (listed store.past.first) store.past.events (faults_on store.faults) };
+    ghost is_disk = { λ store. past_is_disk (listed store.past.first) store.past.events
+        (faults_on store.faults) };
 
     fn len(&mut self, file: u32) -> Result<u64, Failed>
         ensures cause { FileCause file (told_store self.old) (told_store self.new) result }
@@ -185,13 +188,17 @@ impl Store for MemStore {
         ensures fits { OnOk result (at + length bytes.now < 2 ^ 64) }
         ensures cause { FileCause file (told_store self.old) (told_store self.new) result }
         ensures written { OnOk result
-            ((told_store self.new).reads file ≡ overlaid at bytes.now ((told_store self.old).reads file)) }
+            ((told_store self.new).reads file
+            ≡ overlaid at bytes.now ((told_store self.old).reads file)) }
         ensures others { Others file (told_store self.old) (told_store self.new) }
         ensures torn { (after : List ℕ) → (told_store self.new).leaves file after
-            → (before : List ℕ) × (told_store self.old).leaves file before × Torn at bytes.now before after }
-        ensures moments { Leaves (told_store self.old) (told_store self.new) (Images (told_store self.new)) }
+            → (before : List ℕ) × (told_store self.old).leaves file before
+            × Torn at bytes.now before after }
+        ensures moments { Leaves (told_store self.old) (told_store self.new)
+            (Images (told_store self.new)) }
         ensures changes { Changes (IsToFail self.old ⊎ (2 ^ 64 ≤ at + length bytes.now)) file
-            (record self.old.past { events = Written file at bytes.now ∷ self.old.past.events }) self.old self.new result }
+            (record self.old.past { events = Written file at bytes.now ∷ self.old.past.events })
+            self.old self.new result }
     {
         if self.next_fails() || at.checked_add(bytes.len() as u64).is_none() {
             return Err(self.fault(file));
@@ -205,7 +212,8 @@ impl Store for MemStore {
         ensures quiet { Quiet (told_store self.old) (told_store self.new) }
         ensures settled { OnOk result (Settled (told_store self.new) file) }
         ensures changes { Changes (IsToFail self.old) file
-            (record self.old.past { events = Synced file ∷ self.old.past.events }) self.old self.new result }
+            (record self.old.past { events = Synced file ∷ self.old.past.events }) self.old
+            self.new result }
     {
         if self.next_fails() {
             return Err(self.fault(file));
@@ -220,10 +228,13 @@ impl Store for MemStore {
             ((told_store self.new).reads file ≡ take to ((told_store self.old).reads file)) }
         ensures others { Others file (told_store self.old) (told_store self.new) }
         ensures torn { (after : List ℕ) → (told_store self.new).leaves file after
-            → (before : List ℕ) × (told_store self.old).leaves file before × CutShort to before after }
-        ensures moments { Leaves (told_store self.old) (told_store self.new) (Images (told_store self.new)) }
+            → (before : List ℕ) × (told_store self.old).leaves file before
+            × CutShort to before after }
+        ensures moments { Leaves (told_store self.old) (told_store self.new)
+            (Images (told_store self.new)) }
         ensures changes { Changes (IsToFail self.old) file
-            (record self.old.past { events = Cut file to ∷ self.old.past.events }) self.old self.new result }
+            (record self.old.past { events = Cut file to ∷ self.old.past.events }) self.old
+            self.new result }
     {
         if self.next_fails() {
             return Err(self.fault(file));

@@ -1,7 +1,9 @@
-ghost use Rattle.std.specs.Prelude.{◌≡◌, ℕ, ◌+◌, ◌<◌, ◌≤◌, ◌∷◌, List, [], length, reverse, suc, slice_index_or, if◌then◌else◌};
+ghost use Rattle.std.specs.Prelude.{◌≡◌, ℕ, ◌+◌, ◌<◌, ◌≤◌, ◌∷◌, List, [], length, reverse, suc};
+ghost use Rattle.std.specs.Prelude.{slice_index_or, if◌then◌else◌};
 ghost use Rattle.room_disk.specs.declared.disk_event.DiskEvent.{DiskEvent};
 ghost use Rattle.room_disk.specs.declared.mem_file.MemFile.{MemFile};
-ghost use Rattle.room_disk.specs.Crashed.{partly_written, partly_cut, partly_done, all_partly_done, unsynced};
+ghost use Rattle.room_disk.specs.Crashed.{partly_written, partly_cut, partly_done, all_partly_done};
+ghost use Rattle.room_disk.specs.Crashed.{unsynced};
 ghost use Rattle.room_disk.specs.Kept.{LieWithin};
 ghost use Rattle.room_disk.specs.Rebuilding.{CanRebuild, IsRebuilt};
 
@@ -10,12 +12,14 @@ use crate::file_bytes::FileBytes;
 use crate::mem_file::MemFile;
 use crate::part::Part;
 
-/// Makes of each file what a crash leaves, which does a part of each event since the last sync of its file.
+/// Makes of each file what a crash leaves, which does a part of each event since the last sync of
+/// its file.
 pub fn rebuild_all(files: &mut [MemFile], events: &[DiskEvent], part: Part)
     requires { (index : ℕ) (other : MemFile) → index < length files.old
         → CanRebuild (reverse events.now) (slice_index_or files.old index other) }
     ensures { (index : ℕ) (other : MemFile) → index < length files.old
-        → IsRebuilt part (reverse events.now) (slice_index_or files.old index other) (slice_index_or files.new index other) }
+        → IsRebuilt part (reverse events.now) (slice_index_or files.old index other)
+        (slice_index_or files.new index other) }
 {
     for file in files.iter_mut() {
         rebuild(file, events, part);
@@ -46,7 +50,8 @@ fn unsynced(events: &[DiskEvent], file: u32) -> usize
 }
 
 fn is_sync(event: &DiskEvent, file: u32) -> bool
-    ensures { (older : List DiskEvent) → unsynced file (event.now ∷ older) ≡ (if result then 0 else suc (unsynced file older)) }
+    ensures { (older : List DiskEvent)
+        → unsynced file (event.now ∷ older) ≡ (if result then 0 else suc (unsynced file older)) }
 {
     match event {
         DiskEvent::Synced { file: other } => *other == file,
@@ -57,7 +62,8 @@ fn is_sync(event: &DiskEvent, file: u32) -> bool
 // Does a part of each event of the file.
 fn do_all(bytes: &mut FileBytes, file: u32, events: &[DiskEvent], part: Part)
     requires { LieWithin bytes.old.room file (reverse events.now) }
-    ensures bytes { bytes.new.bytes ≡ all_partly_done part file bytes.old.bytes (reverse events.now) }
+    ensures bytes { bytes.new.bytes
+        ≡ all_partly_done part file bytes.old.bytes (reverse events.now) }
     ensures room { bytes.new.room ≡ bytes.old.room }
 {
     for event in events {

@@ -62,7 +62,8 @@ enum Step<'a> {
     Cut(u64),
 }
 
-// What the file reads after a crash of that choice, and one more crash, which finds nothing pending.
+// What the file reads after a crash of that choice, and one more crash, which finds nothing
+// pending.
 fn after_crash(alloc: Global, steps: &[Step<'_>], choice: u8) -> Result<Vec<u8>, Fail>
     requires { choice < 4 }
 {

@@ -1,5 +1,6 @@
 -- What `put` answers and leaves.
-use Rattle.std.specs.Prelude.{◌≡◌, ◌⊎◌, ℕ, ◌+◌, ◌≤◌, ◌<◌, List, [], ◌∷◌, ◌++◌, length, min, codes, slice_index}
+use Rattle.std.specs.Prelude.{◌≡◌, ◌⊎◌, ℕ, ◌+◌, ◌≤◌, ◌<◌, List, [], ◌∷◌, ◌++◌, length, min, codes}
+use Rattle.std.specs.Prelude.{slice_index}
 use Rattle.std.specs.Fmt.{decimal}
 use Rattle.std.specs.Int.{div_ceil}
 use Rattle.room_base.specs.Numbers.{max_moment}
@@ -29,20 +30,23 @@ IsOccupied disk = slice_index disk 0 ≡ 0x4C
 -- a label gets the first moment that the clock has, or the greatest that is written
 abbrev pub IsMade : ClockView → ℕ → Type 0
 IsMade clock made =
-    Told clock.tells ((first : Moment) × IsFirstMoment clock.moments first × (made ≡ min first.0 max_moment))
+    Told clock.tells
+    ((first : Moment) × IsFirstMoment clock.moments first × (made ≡ min first.0 max_moment))
 
 -- the label that a cartridge without one gets
 abbrev pub IsNewLabel : ClockView → ℕ → Label → Type 0
 IsNewLabel clock cart label = (made : ℕ) × IsMade clock made × (label ≡ raw_label cart made)
 
--- What stood on the cartridge before a file came to it: no label, and it gets a raw one first; or a raw one and
--- these files.
+-- What stood on the cartridge before a file came to it: no label, and it gets a raw one first; or a
+-- raw one and these files.
 abbrev pub HadFiles : ClockView → ℕ → List ℕ → Label → List CommittedFile → Type 0
-HadFiles clock cart before label files = (¬ (IsOccupied before) × (files ≡ []) × IsNewLabel clock cart label)
+HadFiles clock cart before label files =
+    (¬ (IsOccupied before) × (files ≡ []) × IsNewLabel clock cart label)
     ⊎ ((mark : ℕ) × IsRawCartridge before label files mark)
 
 -- the cartridge has one file more than before, with this number, and it holds these bytes
-pub record HasOneFileMore (clock : ClockView) (cart : ℕ) (bytes before : List ℕ) (number : ℕ) (after : List ℕ) : Type 0 where
+pub record HasOneFileMore (clock : ClockView) (cart : ℕ) (bytes before : List ℕ) (number : ℕ)
+    (after : List ℕ) : Type 0 where
   pub label : Label
   pub files : List CommittedFile
   pub file : CommittedFile
@@ -59,21 +63,27 @@ HasOldFiles before disk = (label : Label) × ((files : List CommittedFile) × ((
 
 -- the cartridge has no file: it has no label, or a raw one alone
 abbrev pub HasNoFile : ClockView → ℕ → List ℕ → Type 0
-HasNoFile clock cart disk = Committed disk Unlabelled ⊎ ((label : Label) × IsNewLabel clock cart label × Committed disk (without_files label))
+HasNoFile clock cart disk =
+    Committed disk Unlabelled
+    ⊎ ((label : Label) × IsNewLabel clock cart label × Committed disk (without_files label))
 
--- What a crash may leave of the cartridge: what it was; the files that it had; no file, where it had none; or one
--- file more, whole.
+-- What a crash may leave of the cartridge: what it was; the files that it had; no file, where it
+-- had none; or one file more, whole.
 abbrev pub IsPut : ClockView → ℕ → List ℕ → List ℕ → List ℕ → Type 0
-IsPut clock cart bytes before disk = (disk ≡ before) ⊎ HasOldFiles before disk ⊎ (¬ (IsOccupied before) × HasNoFile clock cart disk)
+IsPut clock cart bytes before disk =
+    (disk ≡ before) ⊎ HasOldFiles before disk ⊎ (¬ (IsOccupied before) × HasNoFile clock cart disk)
     ⊎ ((number : ℕ) × HasOneFileMore clock cart bytes before number disk)
 
--- While a cartridge gets its first file it is as it was, has no label, or has the new label with no file or this one.
+-- While a cartridge gets its first file it is as it was, has no label, or has the new label with no
+-- file or this one.
 abbrev pub IsFirstFile : Label → List (List ChunkText) → List ℕ → List ℕ → Type 0
-IsFirstFile label blocks before disk = IsBeingLabelled label before disk ⊎ Committed disk (with_file label [] 1 blocks)
+IsFirstFile label blocks before disk =
+    IsBeingLabelled label before disk ⊎ Committed disk (with_file label [] 1 blocks)
 
 -- what `put` prints
 abbrev pub kept_line : ℕ → ℕ → ℕ → List ℕ
-kept_line size number cart = codes "kept " ++ (decimal size ++ (codes " bytes as file " ++ (decimal number
+kept_line size number cart =
+    codes "kept " ++ (decimal size ++ (codes " bytes as file " ++ (decimal number
     ++ (codes " of cart " ++ (decimal cart ++ codes "\n")))))
 
 -- ---- the site of the next file
@@ -82,18 +92,23 @@ kept_line size number cart = codes "kept " ++ (decimal size ++ (codes " bytes as
 abbrev pub IsSite : ClockView → ℕ → List ℕ → Site → Type 0
 IsSite clock cart before (sites.New label) = ¬ (IsOccupied before) × IsNewLabel clock cart label
 IsSite clock cart before (sites.Next volume number) =
-    (files : List CommittedFile) × IsRawCartridge before volume.label files volume.mark × (number ≡ length files + 1)
+    (files : List CommittedFile) × IsRawCartridge before volume.label files volume.mark
+    × (number ≡ length files + 1)
 
 -- there is room for so many bytes, and all numbers are in their ranges
 abbrev pub IsSiteFor : ℕ → ℕ → Site → Type 0
-IsSiteFor cart size (sites.New label) = (label.cart.0 ≡ cart) × IsLabel label × (blocks_for size + 3 ≤ label.capacity)
-IsSiteFor cart size (sites.Next volume number) = (volume.cart.0 ≡ cart) × IsLabel volume.label × (1 ≤ volume.mark)
+IsSiteFor cart size (sites.New label) =
+    (label.cart.0 ≡ cart) × IsLabel label × (blocks_for size + 3 ≤ label.capacity)
+IsSiteFor cart size (sites.Next volume number) =
+    (volume.cart.0 ≡ cart) × IsLabel volume.label × (1 ≤ volume.mark)
     × (volume.mark + blocks_for size + 2 ≤ volume.label.capacity) × (1 ≤ number)
 
 -- there is room for so many data blocks
 abbrev pub HasRoom : ℕ → ℕ → Site → Type 0
-HasRoom cart count (sites.New label) = (label.cart.0 ≡ cart) × IsLabel label × (count + 3 ≤ label.capacity)
-HasRoom cart count (sites.Next volume number) = (volume.cart.0 ≡ cart) × (volume.mark + count + 2 ≤ volume.label.capacity)
+HasRoom cart count (sites.New label) =
+    (label.cart.0 ≡ cart) × IsLabel label × (count + 3 ≤ label.capacity)
+HasRoom cart count (sites.Next volume number) =
+    (volume.cart.0 ≡ cart) × (volume.mark + count + 2 ≤ volume.label.capacity)
 
 abbrev pub site_number : Site → ℕ
 site_number (sites.New label) = 1

@@ -9,7 +9,9 @@ use Rattle.room_top.specs.declared.status.Status.TheVariants as status
 
 -- a line was written, or a front of it where the count of faults rose
 abbrev pub WritesLine : List ℕ → SinkView → SinkView → Type 0
-WritesLine line old new = (new.written ≡ old.written ++ line) ⊎ (Rose old.faults new.faults × AddsFront old.written new.written line)
+WritesLine line old new =
+    (new.written ≡ old.written ++ line)
+    ⊎ (Rose old.faults new.faults × AddsFront old.written new.written line)
 
 -- the line for a word that doesn't fit
 abbrev pub usage_line : List ℕ → List ℕ

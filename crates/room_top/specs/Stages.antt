@@ -1,5 +1,6 @@
 -- What each stage of `put` answers, and what follows from it.
-use Rattle.std.specs.Prelude.{◌≡◌, ◌⊎◌, ℕ, ◌+◌, ◌≤◌, ◌<◌, ◌^◌, List, [], length, take, drop, codes, Result, Ok, Err}
+use Rattle.std.specs.Prelude.{◌≡◌, ◌⊎◌, ℕ, ◌+◌, ◌≤◌, ◌<◌, ◌^◌, List, [], length, take, drop, codes}
+use Rattle.std.specs.Prelude.{Result, Ok, Err}
 use Rattle.std.specs.Fmt.{decimal}
 use Rattle.room_base.specs.Faults.{Rose}
 use Rattle.room_base.specs.Outside.{ClockView, later_moments}
@@ -7,10 +8,13 @@ use Rattle.room_base.specs.declared.numbers.Moment.{Moment}
 use Rattle.room_base.specs.declared.refusal.Refusal.TheVariants as refusals
 use Rattle.room_disk.specs.Disk.{DiskView, Quiet, Settled}
 use Rattle.volume_block.specs.declared.label.Label.{Label}
-use Rattle.volume_store.specs.Committed.{block_at, IsDataPlace, Damaged, CommittedFile, Committed, Unlabelled, HasLabel}
+use Rattle.volume_store.specs.Committed.{block_at, IsDataPlace, Damaged, CommittedFile, Committed}
+use Rattle.volume_store.specs.Committed.{Unlabelled, HasLabel}
 use Rattle.volume_store.specs.declared.marks.FilePlace.{FilePlace}
-use Rattle.room_top.specs.Raw.{IsRaw, HasBytes, IsFileOn, IsFirstDamaged, GivesFile, IsDamagedIn, LacksFile, IsDamagedAt, IsStrange}
-use Rattle.room_top.specs.Put.{HasOneFileMore, IsNewLabel, IsOccupied, blocks_for, IsSite, IsSiteFor, IsFull}
+use Rattle.room_top.specs.Raw.{IsRaw, HasBytes, IsFileOn, IsFirstDamaged, GivesFile, IsDamagedIn}
+use Rattle.room_top.specs.Raw.{LacksFile, IsDamagedAt, IsStrange}
+use Rattle.room_top.specs.Put.{HasOneFileMore, IsNewLabel, IsOccupied, blocks_for, IsSite}
+use Rattle.room_top.specs.Put.{IsSiteFor, IsFull}
 use Rattle.room_top.specs.declared.site.Site.{Site}
 use Rattle.room_top.specs.declared.site.Site.TheVariants as sites
 use Rattle.room_top.specs.declared.get.DataFault.{DataFault}
@@ -47,7 +51,8 @@ JudgesInput bytes_of left after (Err other) = Unit {0}
 
 -- the refusal of a cartridge whose label isn't raw, or want of memory
 abbrev pub IsOccupiedStatus : ℕ → Status → Type 0
-IsOccupiedStatus cart (status.Refused (refusals.Exists kind name)) = (kind ≡ codes "cart") × (name ≡ decimal cart)
+IsOccupiedStatus cart (status.Refused (refusals.Exists kind name)) =
+    (kind ≡ codes "cart") × (name ≡ decimal cart)
 IsOccupiedStatus cart status.Memory = Unit {0}
 IsOccupiedStatus cart other = ⊥
 
@@ -59,7 +64,8 @@ IsFullStatus other = ⊥
 
 -- the refusal of a file that isn't there, or want of memory
 abbrev pub IsNoFileStatus : ℕ → Status → Type 0
-IsNoFileStatus number (status.Refused (refusals.NoSuch kind name)) = (kind ≡ codes "file") × (name ≡ decimal number)
+IsNoFileStatus number (status.Refused (refusals.NoSuch kind name)) =
+    (kind ≡ codes "file") × (name ≡ decimal number)
 IsNoFileStatus number status.Memory = Unit {0}
 IsNoFileStatus number other = ⊥
 
@@ -69,21 +75,29 @@ IsNoFileStatus number other = ⊥
 abbrev pub SiteCause : ℕ → ℕ → ℕ → ℕ → ℕ → Result Site Status → Type 0
 SiteCause cart disk_before disk_now clock_before clock_now (Ok _) = Unit {0}
 SiteCause cart disk_before disk_now clock_before clock_now (Err status.Memory) = Unit {0}
-SiteCause cart disk_before disk_now clock_before clock_now (Err status.DiskFault) = Rose disk_before disk_now
-SiteCause cart disk_before disk_now clock_before clock_now (Err status.ClockFault) = Rose clock_before clock_now
-SiteCause cart disk_before disk_now clock_before clock_now (Err (status.Refused (refusals.Exists kind name))) =
+SiteCause cart disk_before disk_now clock_before clock_now (Err status.DiskFault) =
+    Rose disk_before disk_now
+SiteCause cart disk_before disk_now clock_before clock_now (Err status.ClockFault) =
+    Rose clock_before clock_now
+SiteCause cart disk_before disk_now clock_before clock_now
+    (Err (status.Refused (refusals.Exists kind name))) =
     (kind ≡ codes "cart") × (name ≡ decimal cart)
-SiteCause cart disk_before disk_now clock_before clock_now (Err (status.Refused (refusals.DamagedBlock volid block))) = Unit {0}
-SiteCause cart disk_before disk_now clock_before clock_now (Err (status.Refused (refusals.NeedVolume pool))) = pool ≡ codes "Raw"
+SiteCause cart disk_before disk_now clock_before clock_now
+    (Err (status.Refused (refusals.DamagedBlock volid block))) = Unit {0}
+SiteCause cart disk_before disk_now clock_before clock_now
+    (Err (status.Refused (refusals.NeedVolume pool))) = pool ≡ codes "Raw"
 SiteCause cart disk_before disk_now clock_before clock_now (Err other) = ⊥
 
 -- what each answer says of the cartridge
 abbrev pub JudgesSite : ClockView → ℕ → ℕ → List ℕ → Result Site Status → Type 0
 JudgesSite clock cart size before (Ok site) = IsSite clock cart before site
 JudgesSite clock cart size before (Err status.ClockFault) = ¬ (IsOccupied before)
-JudgesSite clock cart size before (Err (status.Refused (refusals.Exists kind name))) = (label : Label) × IsStrange before label
-JudgesSite clock cart size before (Err (status.Refused (refusals.DamagedBlock volid block))) = IsDamagedAt before volid.0 block
-JudgesSite clock cart size before (Err (status.Refused (refusals.NeedVolume pool))) = IsFull size before
+JudgesSite clock cart size before (Err (status.Refused (refusals.Exists kind name))) =
+    (label : Label) × IsStrange before label
+JudgesSite clock cart size before (Err (status.Refused (refusals.DamagedBlock volid block))) =
+    IsDamagedAt before volid.0 block
+JudgesSite clock cart size before (Err (status.Refused (refusals.NeedVolume pool))) =
+    IsFull size before
 JudgesSite clock cart size before (Err other) = Unit {0}
 
 -- the clock is asked where the cartridge gets a label
@@ -99,7 +113,8 @@ SettlesSite disk file (Err other) = Unit {0}
 
 -- the same of a cartridge that gets a label
 abbrev pub IsNewSite : ClockView → ℕ → ℕ → ℕ → ℕ → Result Site Status → Type 0
-IsNewSite clock cart size before now (Ok (sites.New label)) = IsNewLabel clock cart label × IsSiteFor cart size (sites.New label)
+IsNewSite clock cart size before now (Ok (sites.New label)) =
+    IsNewLabel clock cart label × IsSiteFor cart size (sites.New label)
 IsNewSite clock cart size before now (Ok (sites.Next volume number)) = ⊥
 IsNewSite clock cart size before now (Err status.ClockFault) = Rose before now
 IsNewSite clock cart size before now (Err other) = ⊥
@@ -109,7 +124,8 @@ abbrev pub NextCause : ℕ → ℕ → ℕ → Result Site Status → Type 0
 NextCause cart before now (Ok _) = Unit {0}
 NextCause cart before now (Err status.Memory) = Unit {0}
 NextCause cart before now (Err status.DiskFault) = Rose before now
-NextCause cart before now (Err (status.Refused (refusals.Exists kind name))) = (kind ≡ codes "cart") × (name ≡ decimal cart)
+NextCause cart before now (Err (status.Refused (refusals.Exists kind name))) =
+    (kind ≡ codes "cart") × (name ≡ decimal cart)
 NextCause cart before now (Err (status.Refused (refusals.DamagedBlock volid block))) = Unit {0}
 NextCause cart before now (Err (status.Refused (refusals.NeedVolume pool))) = pool ≡ codes "Raw"
 NextCause cart before now (Err other) = ⊥
@@ -122,7 +138,8 @@ NeverNew (Err other) = Unit {0}
 
 -- the same at a mark place behind so many files
 abbrev pub IsPlaceBehind : ℕ → Label → ℕ → ℕ → ℕ → Result Site Status → Type 0
-IsPlaceBehind cart label mark files size (Ok (sites.Next volume number)) = (volume ≡ record { label = label; cart = record { 0 = cart }; mark = mark })
+IsPlaceBehind cart label mark files size (Ok (sites.Next volume number)) =
+    (volume ≡ record { label = label; cart = record { 0 = cart }; mark = mark })
     × (number ≡ files + 1) × (mark + blocks_for size + 2 ≤ label.capacity)
 IsPlaceBehind cart label mark files size (Ok (sites.New other)) = ⊥
 IsPlaceBehind cart label mark files size (Err status.Memory) = Unit {0}
@@ -140,8 +157,10 @@ StoreCause before now (Err status.DiskFault) = Rose before now
 StoreCause before now (Err other) = ⊥
 
 -- what each answer says of the disk: but for a fault of the disk, a failure leaves it as it was
-abbrev pub Stores : ℕ → ClockView → ℕ → List ℕ → ℕ → DiskView → DiskView → Result (Unit {0}) Status → Type 0
-Stores file clock cart bytes number old new (Ok _) = HasOneFileMore clock cart bytes (old.reads file) number (new.reads file) × Settled new file
+abbrev pub Stores : ℕ → ClockView → ℕ → List ℕ → ℕ → DiskView → DiskView → Result (Unit {0}) Status
+    → Type 0
+Stores file clock cart bytes number old new (Ok _) =
+    HasOneFileMore clock cart bytes (old.reads file) number (new.reads file) × Settled new file
 Stores file clock cart bytes number old new (Err status.DiskFault) = Unit {0}
 Stores file clock cart bytes number old new (Err other) = Quiet old new
 
@@ -152,9 +171,11 @@ abbrev pub ReadFaultCause : ℕ → ℕ → ℕ → ℕ → Status → Type 0
 ReadFaultCause cart number before now status.Memory = Unit {0}
 ReadFaultCause cart number before now status.DiskFault = Rose before now
 ReadFaultCause cart number before now (status.Refused (refusals.Unlabelled named)) = named.0 ≡ cart
-ReadFaultCause cart number before now (status.Refused (refusals.DamagedBlock volid block)) = Unit {0}
+ReadFaultCause cart number before now (status.Refused (refusals.DamagedBlock volid block)) =
+    Unit {0}
 ReadFaultCause cart number before now (status.Refused (refusals.Strange volid)) = Unit {0}
-ReadFaultCause cart number before now (status.Refused (refusals.NoSuch kind name)) = (kind ≡ codes "file") × (name ≡ decimal number)
+ReadFaultCause cart number before now (status.Refused (refusals.NoSuch kind name)) =
+    (kind ≡ codes "file") × (name ≡ decimal number)
 ReadFaultCause cart number before now other = ⊥
 
 abbrev pub ReadCause : {T : Type 0} → ℕ → ℕ → ℕ → ℕ → Result T Status → Type 0
@@ -171,7 +192,8 @@ abbrev pub JudgesRead : ℕ → List ℕ → Status → Type 0
 JudgesRead number disk (status.Refused (refusals.Unlabelled named)) = Committed disk Unlabelled
 JudgesRead number disk (status.Refused (refusals.DamagedBlock volid block)) =
     IsDamagedAt disk volid.0 block ⊎ IsDamagedIn disk number volid.0 block
-JudgesRead number disk (status.Refused (refusals.Strange volid)) = (label : Label) × IsStrange disk label × (volid.0 ≡ label.volid.0)
+JudgesRead number disk (status.Refused (refusals.Strange volid)) =
+    (label : Label) × IsStrange disk label × (volid.0 ≡ label.volid.0)
 JudgesRead number disk (status.Refused (refusals.NoSuch kind name)) = LacksFile disk number
 JudgesRead number disk other = Unit {0}
 
@@ -183,7 +205,8 @@ FindsRawLabel disk (Err fault) = (number : ℕ) → JudgesRead number disk fault
 -- a label that is raw, or the refusal of one that isn't
 abbrev pub IsRawOrStrange : Label → Result Label Status → Type 0
 IsRawOrStrange label (Ok same) = (same ≡ label) × IsRaw label
-IsRawOrStrange label (Err (status.Refused (refusals.Strange volid))) = (volid ≡ label.volid) × ¬ (IsRaw label)
+IsRawOrStrange label (Err (status.Refused (refusals.Strange volid))) =
+    (volid ≡ label.volid) × ¬ (IsRaw label)
 IsRawOrStrange label (Err other) = ⊥
 
 -- the numbers of a place are in their ranges
@@ -208,7 +231,8 @@ abbrev pub IsDataRead : List ℕ → ℕ → ℕ → List ℕ → Result (Unit {
 IsDataRead disk volid number block (Ok _) = block ≡ block_at disk number
 IsDataRead disk volid number block (Err faults.Memory) = Unit {0}
 IsDataRead disk volid number block (Err faults.Failed) = Unit {0}
-IsDataRead disk volid number block (Err (faults.Damaged bad)) = (bad ≡ number) × IsDataPlace disk volid number Damaged
+IsDataRead disk volid number block (Err (faults.Damaged bad)) =
+    (bad ≡ number) × IsDataPlace disk volid number Damaged
 
 -- the bytes of the data blocks of a file, or the first that is damaged
 abbrev pub GivesPlaces : {T : Type 0} → (T → List ℕ) → CommittedFile → Result T DataFault → Type 0

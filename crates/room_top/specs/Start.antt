@@ -1,5 +1,6 @@
 -- What the program's arguments ask for.
-use Rattle.std.specs.Prelude.{◌≡◌, ◌⊎◌, ℕ, List, [], ◌∷◌, ◌++◌, codes, map, string_bytes, Result, Ok, Err}
+use Rattle.std.specs.Prelude.{◌≡◌, ◌⊎◌, ℕ, List, [], ◌∷◌, ◌++◌, codes, map, string_bytes, Result}
+use Rattle.std.specs.Prelude.{Ok, Err}
 use Rattle.room_base.specs.Faults.{Rose}
 use Rattle.room_base.specs.Outside.{AddsFront}
 use Rattle.room_base.specs.Text.{IsName, HasLength}
@@ -29,7 +30,8 @@ NamesNoFolder (first ∷ rest) word = (word ≡ first) × ¬ (IsFolder first)
 abbrev pub AsksFor : List (List ℕ) → Result Request Status → Type 0
 AsksFor words (Ok requests.Help) = words ≡ codes "--help" ∷ []
 AsksFor words (Ok requests.Version) = words ≡ codes "--version" ∷ []
-AsksFor words (Ok (requests.Run folder rest)) = (words ≡ folder ∷ map string_bytes rest.items) × IsFolder folder
+AsksFor words (Ok (requests.Run folder rest)) =
+    (words ≡ folder ∷ map string_bytes rest.items) × IsFolder folder
 AsksFor words (Err (status.Usage word)) = NamesNoFolder words word
 AsksFor words (Err status.Memory) = Unit {0}
 AsksFor words (Err other) = ⊥
@@ -45,8 +47,10 @@ TellsText before now text status.Done = now ≡ before ++ text
 TellsText before now text status.WriteFault = AddsFront before now text
 TellsText before now text other = ⊥
 
--- a status that the words may lead to: a word that doesn't fit is the first, or the first behind the folder
+-- a status that the words may lead to: a word that doesn't fit is the first, or the first behind
+-- the folder
 abbrev pub IsStarted : List (List ℕ) → Status → Type 0
 IsStarted [] (status.Usage word) = word ≡ []
-IsStarted (first ∷ rest) (status.Usage word) = ((word ≡ first) × ¬ (IsFolder first)) ⊎ (IsFolder first × Misfit rest word)
+IsStarted (first ∷ rest) (status.Usage word) =
+    ((word ≡ first) × ¬ (IsFolder first)) ⊎ (IsFolder first × Misfit rest word)
 IsStarted words other = Unit {0}

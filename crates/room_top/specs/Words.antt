@@ -1,5 +1,6 @@
 -- The words of the program.
-use Rattle.std.specs.Prelude.{◌≡◌, ◌≢◌, ◌⊎◌, ℕ, ◌≤◌, ◌<◌, ◌^◌, List, [], ◌∷◌, codes, Result, Ok, Err}
+use Rattle.std.specs.Prelude.{◌≡◌, ◌≢◌, ◌⊎◌, ℕ, ◌≤◌, ◌<◌, ◌^◌, List, [], ◌∷◌, codes, Result, Ok}
+use Rattle.std.specs.Prelude.{Err}
 use Rattle.std.specs.Fmt.{decimal}
 use Rattle.volume_store.specs.Writes.{IsCart}
 use Rattle.room_top.specs.declared.status.Status.{Status}
@@ -27,7 +28,8 @@ ArePut words cart = IsCart cart × (words ≡ codes "put" ∷ decimal cart ∷ [
 
 abbrev pub AreGet : List (List ℕ) → ℕ → ℕ → Type 0
 AreGet words cart number =
-    IsCart cart × ((1 ≤ number) × (number < 2 ^ 64)) × (words ≡ codes "get" ∷ decimal cart ∷ decimal number ∷ [])
+    IsCart cart × ((1 ≤ number) × (number < 2 ^ 64))
+    × (words ≡ codes "get" ∷ decimal cart ∷ decimal number ∷ [])
 
 -- the first word behind `put` that doesn't fit, or the empty text where one is missing
 abbrev pub PutMisfit : List (List ℕ) → List ℕ → Type 0
@@ -47,13 +49,16 @@ FileMisfit (file ∷ more ∷ rest) word =
 abbrev pub GetMisfit : List (List ℕ) → List ℕ → Type 0
 GetMisfit [] word = word ≡ []
 GetMisfit (cart ∷ rest) word =
-    (IsNoCartWord cart × (word ≡ cart)) ⊎ (((number : ℕ) × IsCartWord cart number) × FileMisfit rest word)
+    (IsNoCartWord cart × (word ≡ cart))
+    ⊎ (((number : ℕ) × IsCartWord cart number) × FileMisfit rest word)
 
 -- the first word that doesn't fit, or the empty text where one is missing
 abbrev pub Misfit : List (List ℕ) → List ℕ → Type 0
 Misfit [] word = word ≡ []
-Misfit (command ∷ rest) word = ((command ≢ codes "put") × (command ≢ codes "get") × (word ≡ command))
-    ⊎ ((command ≡ codes "put") × PutMisfit rest word) ⊎ ((command ≡ codes "get") × GetMisfit rest word)
+Misfit (command ∷ rest) word =
+    ((command ≢ codes "put") × (command ≢ codes "get") × (word ≡ command))
+    ⊎ ((command ≡ codes "put") × PutMisfit rest word)
+    ⊎ ((command ≡ codes "get") × GetMisfit rest word)
 
 -- reading the words gives the command that they are, or the word that doesn't fit
 abbrev pub ReadsWords : List (List ℕ) → Result Command Status → Type 0
@@ -74,7 +79,8 @@ ReadsPut words (Err other) = ⊥
 -- the same behind `get`
 abbrev pub ReadsGet : List (List ℕ) → Result Command Status → Type 0
 ReadsGet words (Ok (commands.Get cart number)) =
-    IsCart cart.0 × ((1 ≤ number) × (number < 2 ^ 64)) × (words ≡ decimal cart.0 ∷ decimal number ∷ [])
+    IsCart cart.0 × ((1 ≤ number) × (number < 2 ^ 64))
+    × (words ≡ decimal cart.0 ∷ decimal number ∷ [])
 ReadsGet words (Ok other) = ⊥
 ReadsGet words (Err (status.Usage word)) = GetMisfit words word
 ReadsGet words (Err status.Memory) = Unit {0}

@@ -1,4 +1,5 @@
-ghost use Rattle.std.specs.Prelude.{◌≡◌, ◌++◌, ◌+◌, ◌≤◌, ◌<◌, ◌^◌, ℕ, List, length, take, drop, IfOk, OnOk};
+ghost use Rattle.std.specs.Prelude.{◌≡◌, ◌++◌, ◌+◌, ◌≤◌, ◌<◌, ◌^◌, ℕ, List, length, take, drop};
+ghost use Rattle.std.specs.Prelude.{IfOk, OnOk};
 ghost use Rattle.room_base.specs.Outside.{Told};
 ghost use Rattle.room_disk.specs.Disk.{Quiet};
 ghost use Rattle.volume_block.specs.Chunks.{ChunkText};
@@ -7,7 +8,9 @@ ghost use Rattle.volume_store.specs.Committed.{CommittedFile, HasLabel, AreDataP
 ghost use Rattle.volume_store.specs.Writes.{cart_file, IsCart};
 ghost use Rattle.room_top.specs.Raw.{IsRaw, joined};
 ghost use Rattle.room_top.specs.Run.{status_of, GetWrites, GetsCause};
-ghost use Rattle.room_top.specs.Stages.{LabelCause, ReadCause, Reads, DataCause, FindsRawLabel, FindsPlace, GivesPlaces, IsPlaceWithin, IsRawOrStrange, IsDataRead, JudgesRead};
+ghost use Rattle.room_top.specs.Stages.{LabelCause, ReadCause, Reads, DataCause, FindsRawLabel};
+ghost use Rattle.room_top.specs.Stages.{FindsPlace, GivesPlaces, IsPlaceWithin, IsRawOrStrange};
+ghost use Rattle.room_top.specs.Stages.{IsDataRead, JudgesRead};
 
 use crate::Status;
 use crate::raw::{CHUNK_SIZE, is_raw};
@@ -38,7 +41,8 @@ pub fn read_file<D: Store>(
     requires cart { IsCart cart.0 }
     requires number { 1 ≤ number }
     ensures later { (file : ℕ) → (D.view disk.old).faults file ≤ (D.view disk.new).faults file }
-    ensures cause { ReadCause cart.0 number ((D.view disk.old).faults (cart_file cart.0)) ((D.view disk.new).faults (cart_file cart.0)) result }
+    ensures cause { ReadCause cart.0 number ((D.view disk.old).faults (cart_file cart.0))
+        ((D.view disk.new).faults (cart_file cart.0)) result }
     ensures tells { (D.view disk.new).tells ≡ (D.view disk.old).tells }
     ensures quiet { Told (D.view disk.old).tells (Quiet (D.view disk.old) (D.view disk.new)) }
     ensures read { Told (D.view disk.old).tells
@@ -58,10 +62,12 @@ pub fn read_file<D: Store>(
 fn find_raw_label<D: Store>(cart: Cart, disk: &mut D) -> Result<Label, Status>
     requires { IsCart cart.0 }
     ensures later { (file : ℕ) → (D.view disk.old).faults file ≤ (D.view disk.new).faults file }
-    ensures cause { LabelCause cart.0 ((D.view disk.old).faults (cart_file cart.0)) ((D.view disk.new).faults (cart_file cart.0)) result }
+    ensures cause { LabelCause cart.0 ((D.view disk.old).faults (cart_file cart.0))
+        ((D.view disk.new).faults (cart_file cart.0)) result }
     ensures tells { (D.view disk.new).tells ≡ (D.view disk.old).tells }
     ensures quiet { Told (D.view disk.old).tells (Quiet (D.view disk.old) (D.view disk.new)) }
-    ensures found { Told (D.view disk.old).tells (FindsRawLabel ((D.view disk.old).reads (cart_file cart.0)) result) }
+    ensures found { Told (D.view disk.old).tells
+        (FindsRawLabel ((D.view disk.old).reads (cart_file cart.0)) result) }
 {
     let Ok(found) = read_label(disk, cart) else {
         return Err(Status::DiskFault);
@@ -94,11 +100,13 @@ fn find_place<D: Store>(
     requires cart { IsCart cart.0 }
     requires number { 1 ≤ number }
     ensures later { (file : ℕ) → (D.view disk.old).faults file ≤ (D.view disk.new).faults file }
-    ensures cause { ReadCause cart.0 number ((D.view disk.old).faults (cart_file cart.0)) ((D.view disk.new).faults (cart_file cart.0)) result }
+    ensures cause { ReadCause cart.0 number ((D.view disk.old).faults (cart_file cart.0))
+        ((D.view disk.new).faults (cart_file cart.0)) result }
     ensures tells { (D.view disk.new).tells ≡ (D.view disk.old).tells }
     ensures within { IfOk result IsPlaceWithin }
     ensures quiet { Told (D.view disk.old).tells (Quiet (D.view disk.old) (D.view disk.new)) }
-    ensures found { Told (D.view disk.old).tells (HasLabel ((D.view disk.old).reads (cart_file cart.0)) label.now → IsRaw label.now
+    ensures found { Told (D.view disk.old).tells
+        (HasLabel ((D.view disk.old).reads (cart_file cart.0)) label.now → IsRaw label.now
         → FindsPlace ((D.view disk.old).reads (cart_file cart.0)) number label.now result) }
 {
     match walk_marks(disk, cart, label.volid, number) {
@@ -122,11 +130,14 @@ fn read_places<D: Store>(
     requires cart { IsCart cart.0 }
     requires place { IsPlaceWithin place }
     ensures later { (file : ℕ) → (D.view disk.old).faults file ≤ (D.view disk.new).faults file }
-    ensures cause { DataCause ((D.view disk.old).faults (cart_file cart.0)) ((D.view disk.new).faults (cart_file cart.0)) result }
+    ensures cause { DataCause ((D.view disk.old).faults (cart_file cart.0))
+        ((D.view disk.new).faults (cart_file cart.0)) result }
     ensures tells { (D.view disk.new).tells ≡ (D.view disk.old).tells }
     ensures quiet { Told (D.view disk.old).tells (Quiet (D.view disk.old) (D.view disk.new)) }
-    ensures given { Told (D.view disk.old).tells ((file : CommittedFile) → (place.mark ≡ file.mark) → (place.count ≡ length file.places)
-        → AreDataPlaces ((D.view disk.old).reads (cart_file cart.0)) volid.0 (file.mark + 1) file.places
+    ensures given { Told (D.view disk.old).tells
+        ((file : CommittedFile) → (place.mark ≡ file.mark) → (place.count ≡ length file.places)
+        → AreDataPlaces ((D.view disk.old).reads (cart_file cart.0)) volid.0
+        (file.mark + 1) file.places
         → GivesPlaces (λ bytes. bytes.items) file result) }
 {
     let count = place.count as usize;
@@ -156,11 +167,14 @@ fn read_data<D: Store>(
     requires number { number < 2 ^ 52 }
     requires whole { length block.old ≡ 4096 }
     ensures later { (file : ℕ) → (D.view disk.old).faults file ≤ (D.view disk.new).faults file }
-    ensures cause { DataCause ((D.view disk.old).faults (cart_file cart.0)) ((D.view disk.new).faults (cart_file cart.0)) result }
+    ensures cause { DataCause ((D.view disk.old).faults (cart_file cart.0))
+        ((D.view disk.new).faults (cart_file cart.0)) result }
     ensures tells { (D.view disk.new).tells ≡ (D.view disk.old).tells }
     ensures quiet { Told (D.view disk.old).tells (Quiet (D.view disk.old) (D.view disk.new)) }
-    ensures holds { OnOk result ((chunks : List ChunkText) × HoldsChunks block.new volid.0 number chunks) }
-    ensures read { Told (D.view disk.old).tells (IsDataRead ((D.view disk.old).reads (cart_file cart.0)) volid.0 number block.new result) }
+    ensures holds { OnOk result
+        ((chunks : List ChunkText) × HoldsChunks block.new volid.0 number chunks) }
+    ensures read { Told (D.view disk.old).tells
+        (IsDataRead ((D.view disk.old).reads (cart_file cart.0)) volid.0 number block.new result) }
 {
     match read_block(disk, cart, volid, number, block) {
         Ok(Block::Data { .. }) => Ok(()),
@@ -174,8 +188,10 @@ fn read_data<D: Store>(
 // Appends the bytes of the chunks of a data block.
 fn append_chunks(block: &[u8], bytes: &mut Vec<u8>) -> Result<(), Memory>
     requires whole { length block.now ≡ 4096 }
-    requires chunks { (volid : ℕ) × ((number : ℕ) × ((chunks : List ChunkText) × HoldsChunks block.now volid number chunks)) }
-    ensures { (volid number : ℕ) (chunks : List ChunkText) → HoldsChunks block.now volid number chunks
+    requires chunks { (volid : ℕ)
+        × ((number : ℕ) × ((chunks : List ChunkText) × HoldsChunks block.now volid number chunks)) }
+    ensures { (volid number : ℕ) (chunks : List ChunkText)
+        → HoldsChunks block.now volid number chunks
         → OnOk result (bytes.new.items ≡ bytes.old.items ++ joined chunks) }
 {
     let mut at = 0;
@@ -206,13 +222,17 @@ pub fn get<W: Sink, D: Store>(
     requires cart { IsCart cart.0 }
     requires number { 1 ≤ number }
     ensures out_later { (W.view out.old).faults ≤ (W.view out.new).faults }
-    ensures disk_later { (file : ℕ) → (D.view disk.old).faults file ≤ (D.view disk.new).faults file }
+    ensures disk_later { (file : ℕ)
+        → (D.view disk.old).faults file ≤ (D.view disk.new).faults file }
     ensures cause { GetsCause cart.0 number (W.view out.old).faults (W.view out.new).faults
-        ((D.view disk.old).faults (cart_file cart.0)) ((D.view disk.new).faults (cart_file cart.0)) (status_of result) }
+        ((D.view disk.old).faults (cart_file cart.0)) ((D.view disk.new).faults (cart_file cart.0))
+        (status_of result) }
     ensures quiet { Told (D.view disk.old).tells (Quiet (D.view disk.old) (D.view disk.new)) }
-    ensures judged { Told (D.view disk.old).tells (JudgesRead number ((D.view disk.old).reads (cart_file cart.0)) (status_of result)) }
+    ensures judged { Told (D.view disk.old).tells
+        (JudgesRead number ((D.view disk.old).reads (cart_file cart.0)) (status_of result)) }
     ensures given { Told (W.view out.old).tells
-        (GetWrites (D.view disk.old) cart.0 number (W.view out.old).written (W.view out.new).written (status_of result)) }
+        (GetWrites (D.view disk.old) cart.0 number (W.view out.old).written (W.view out.new).written
+        (status_of result)) }
 {
     let bytes = read_file(alloc, cart, number, disk)?;
     match write_all(out, &bytes) {

@@ -125,7 +125,8 @@ fn another_label_is_strange(rt: HostRuntime) -> Result<(), Fail> {
     Ok(())
 }
 
-/// A byte of the cartridge after a `put` of 5,000 bytes, and what `get` and `put` say where it is another.
+/// A byte of the cartridge after a `put` of 5,000 bytes, and what `get` and `put` say where it is
+/// another.
 static DAMAGED: [(u64, &str, &str); 5] = [
     (
         60,

@@ -9,7 +9,8 @@ use crate::raw::MAX_FILE_SIZE;
 use room_base::{Failed, Name, Refusal, Source};
 use std::alloc::{AllocError, Global};
 
-/// Takes the whole input, which is to have 1 to 257,024 bytes. No more than one byte past that is taken.
+/// Takes the whole input, which is to have 1 to 257,024 bytes. No more than one byte past that is
+/// taken.
 pub fn take_input<S: Source>(alloc: Global, input: &mut S) -> Result<Vec<u8>, Status>
     ensures later { (S.view input.old).faults ≤ (S.view input.new).faults }
     ensures cause { InputCause (S.view input.old).faults (S.view input.new).faults result }

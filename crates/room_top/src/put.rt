@@ -2,7 +2,8 @@ ghost use Rattle.std.specs.Prelude.{◌≡◌, IfOk, string_bytes};
 ghost use Rattle.room_base.specs.Outside.{Told};
 ghost use Rattle.volume_store.specs.Writes.{cart_file, IsCart};
 ghost use Rattle.room_top.specs.Put.{kept_line};
-ghost use Rattle.room_top.specs.Run.{status_of, counts, Later, PutCause, JudgesBytes, JudgesCartridge, Prints, StoresFile, LeavesDisk, AsksClock};
+ghost use Rattle.room_top.specs.Run.{status_of, counts, Later, PutCause, JudgesBytes};
+ghost use Rattle.room_top.specs.Run.{JudgesCartridge, Prints, StoresFile, LeavesDisk, AsksClock};
 
 use crate::Status;
 use crate::input::take_input;
@@ -29,15 +30,21 @@ pub fn put<S: Source, W: Sink, D: Store, C: Clock>(
         (counts (S.view input.old) (W.view out.old) (D.view disk.old) (C.view clock.old))
         (counts (S.view input.new) (W.view out.new) (D.view disk.new) (C.view clock.new))
         (status_of result) }
-    ensures bytes { Told (S.view input.old).tells (JudgesBytes (S.view input.old).left (S.view input.new).left (status_of result)) }
+    ensures bytes { Told (S.view input.old).tells
+        (JudgesBytes (S.view input.old).left (S.view input.new).left (status_of result)) }
     ensures cartridge { Told (D.view disk.old).tells
-        (JudgesCartridge (S.view input.old) ((D.view disk.old).reads (cart_file cart.0)) (status_of result)) }
+        (JudgesCartridge (S.view input.old) ((D.view disk.old).reads (cart_file cart.0))
+        (status_of result)) }
     ensures printed { Told (W.view out.old).tells
-        (Prints (S.view input.old) (C.view clock.old) cart.0 (D.view disk.old) (D.view disk.new) (W.view out.old).written (W.view out.new).written (status_of result)) }
-    ensures stored { StoresFile (S.view input.old) (C.view clock.old) cart.0 (D.view disk.old) (D.view disk.new) (status_of result) }
+        (Prints (S.view input.old) (C.view clock.old) cart.0 (D.view disk.old) (D.view disk.new)
+        (W.view out.old).written (W.view out.new).written (status_of result)) }
+    ensures stored { StoresFile (S.view input.old) (C.view clock.old) cart.0 (D.view disk.old)
+        (D.view disk.new) (status_of result) }
     ensures moments { Told (D.view disk.old).tells
-        (LeavesDisk (S.view input.old) (C.view clock.old) cart.0 (D.view disk.old) (D.view disk.new) (status_of result)) }
-    ensures asked { Told (C.view clock.old).tells (AsksClock (S.view input.old) (D.view disk.old) cart.0
+        (LeavesDisk (S.view input.old) (C.view clock.old) cart.0 (D.view disk.old) (D.view disk.new)
+        (status_of result)) }
+    ensures asked { Told (C.view clock.old).tells
+        (AsksClock (S.view input.old) (D.view disk.old) cart.0
         (C.view clock.old).moments (C.view clock.new).moments (status_of result)) }
 {
     let bytes = take_input(alloc, input)?;

@@ -7,8 +7,8 @@ ghost use Rattle.room_top.specs.Report.{usage_line, refusal_line, WritesLine, Re
 use crate::Status;
 use room_base::{Failed, Refusal, Sink, write_all, write_parts, write_refusal};
 
-/// Writes the line that tells an operator why the program didn't do its work. Nothing is written for
-/// `Done`, and a fault of the sink changes nothing. Takes no memory.
+/// Writes the line that tells an operator why the program didn't do its work. Nothing is written
+/// for `Done`, and a fault of the sink changes nothing. Takes no memory.
 pub fn report<E: Sink>(err: &mut E, status: &Status)
     ensures later { (E.view err.old).faults ≤ (E.view err.new).faults }
     ensures tells { (E.view err.new).tells ≡ (E.view err.old).tells }

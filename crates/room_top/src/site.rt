@@ -7,7 +7,8 @@ ghost use Rattle.volume_block.specs.Valid.{IsLabel};
 ghost use Rattle.volume_store.specs.Committed.{HasLabel};
 ghost use Rattle.volume_store.specs.Writes.{cart_file, IsCart};
 ghost use Rattle.room_top.specs.Put.{IsSiteFor, site_number, site_mark, site_volid};
-ghost use Rattle.room_top.specs.Stages.{SiteCause, JudgesSite, SettlesSite, IsNewSite, NeverNew, SiteAsks, NextCause, IsPlaceBehind};
+ghost use Rattle.room_top.specs.Stages.{SiteCause, JudgesSite, SettlesSite, IsNewSite, NeverNew};
+ghost use Rattle.room_top.specs.Stages.{SiteAsks, NextCause, IsPlaceBehind};
 
 use crate::Status;
 use crate::raw::{blocks_for, is_raw, raw_label_of};
@@ -57,8 +58,8 @@ impl Site {
     }
 }
 
-/// Finds where a file of so many bytes goes. The clock is asked only where a label is to be written, and
-/// nothing is written.
+/// Finds where a file of so many bytes goes. The clock is asked only where a label is to be
+/// written, and nothing is written.
 pub fn find_site<D: Store, C: Clock>(
     alloc: Global,
     cart: Cart,
@@ -68,17 +69,21 @@ pub fn find_site<D: Store, C: Clock>(
 ) -> Result<Site, Status>
     requires cart { IsCart cart.0 }
     requires size { (1 ≤ size) × (size ≤ 257024) }
-    ensures disk_later { (file : ℕ) → (D.view disk.old).faults file ≤ (D.view disk.new).faults file }
+    ensures disk_later { (file : ℕ)
+        → (D.view disk.old).faults file ≤ (D.view disk.new).faults file }
     ensures clock_later { (C.view clock.old).faults ≤ (C.view clock.new).faults }
-    ensures cause { SiteCause cart.0 ((D.view disk.old).faults (cart_file cart.0)) ((D.view disk.new).faults (cart_file cart.0))
+    ensures cause { SiteCause cart.0 ((D.view disk.old).faults (cart_file cart.0))
+        ((D.view disk.new).faults (cart_file cart.0))
         (C.view clock.old).faults (C.view clock.new).faults result }
     ensures disk_tells { (D.view disk.new).tells ≡ (D.view disk.old).tells }
     ensures clock_tells { (C.view clock.new).tells ≡ (C.view clock.old).tells }
     ensures ready { IfOk result (IsSiteFor cart.0 size) }
     ensures quiet { Told (D.view disk.old).tells (Quiet (D.view disk.old) (D.view disk.new)) }
-    ensures settled { Told (D.view disk.old).tells (SettlesSite (D.view disk.new) (cart_file cart.0) result) }
+    ensures settled { Told (D.view disk.old).tells
+        (SettlesSite (D.view disk.new) (cart_file cart.0) result) }
     ensures judged { Told (D.view disk.old).tells
-        (JudgesSite (C.view clock.old) cart.0 size ((D.view disk.old).reads (cart_file cart.0)) result) }
+        (JudgesSite (C.view clock.old) cart.0 size
+        ((D.view disk.old).reads (cart_file cart.0)) result) }
     ensures asked { Told (C.view clock.old).tells
         (SiteAsks (C.view clock.old).moments (C.view clock.new).moments result) }
 {
@@ -97,7 +102,8 @@ fn new_site<C: Clock>(cart: Cart, size: usize, clock: &mut C) -> Result<Site, St
     requires cart { IsCart cart.0 }
     requires size { (1 ≤ size) × (size ≤ 257024) }
     ensures later { (C.view clock.old).faults ≤ (C.view clock.new).faults }
-    ensures cause { IsNewSite (C.view clock.old) cart.0 size (C.view clock.old).faults (C.view clock.new).faults result }
+    ensures cause { IsNewSite (C.view clock.old) cart.0 size (C.view clock.old).faults
+        (C.view clock.new).faults result }
     ensures tells { (C.view clock.new).tells ≡ (C.view clock.old).tells }
     ensures asked { Told (C.view clock.old).tells
         (SiteAsks (C.view clock.old).moments (C.view clock.new).moments result) }
@@ -120,12 +126,15 @@ fn next_site<D: Store>(
     requires size { (1 ≤ size) × (size ≤ 257024) }
     requires label { IsLabel label.now }
     ensures later { (file : ℕ) → (D.view disk.old).faults file ≤ (D.view disk.new).faults file }
-    ensures cause { NextCause cart.0 ((D.view disk.old).faults (cart_file cart.0)) ((D.view disk.new).faults (cart_file cart.0)) result }
+    ensures cause { NextCause cart.0 ((D.view disk.old).faults (cart_file cart.0))
+        ((D.view disk.new).faults (cart_file cart.0)) result }
     ensures tells { (D.view disk.new).tells ≡ (D.view disk.old).tells }
     ensures ready { IfOk result (IsSiteFor cart.0 size) }
     ensures quiet { Told (D.view disk.old).tells (Quiet (D.view disk.old) (D.view disk.new)) }
-    ensures judged { Told (D.view disk.old).tells (HasLabel ((D.view disk.old).reads (cart_file cart.0)) label.now
-        → (clock : ClockView) → JudgesSite clock cart.0 size ((D.view disk.old).reads (cart_file cart.0)) result) }
+    ensures judged { Told (D.view disk.old).tells
+        (HasLabel ((D.view disk.old).reads (cart_file cart.0)) label.now
+        → (clock : ClockView)
+        → JudgesSite clock cart.0 size ((D.view disk.old).reads (cart_file cart.0)) result) }
     ensures behind { NeverNew result }
 {
     if !is_raw(label) {

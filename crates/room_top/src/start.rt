@@ -30,8 +30,8 @@ The exit status is 0 where all was done; else a line on standard error says why 
 
 const VERSION: &[u8] = b"room 0.1.0\n";
 
-/// Reads the program's arguments, of which the first names the folder, and does what the others ask, over
-/// the system's own objects.
+/// Reads the program's arguments, of which the first names the folder, and does what the others
+/// ask, over the system's own objects.
 pub fn start<R, O, E>(rt: &R, out: O, err: E) -> Status
 where
     R: Env + Files<File = File> + Clock + Input + AllocGlobal,

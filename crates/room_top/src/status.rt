@@ -8,7 +8,8 @@ use room_base::{Items, Refusal};
 pub enum Status {
     /// The input was read to its end where the command reads it, and all output was written.
     Done,
-    /// The words are no command. `word` is the first that doesn't fit, or empty where one is missing.
+    /// The words are no command. `word` is the first that doesn't fit, or empty where one is
+    /// missing.
     Usage { word: Items<u8> },
     Memory,
     /// The input failed.

@@ -7,7 +7,8 @@ ghost use Rattle.volume_block.specs.Region.{IsSealed};
 ghost use Rattle.volume_store.specs.Committed.{Committed};
 ghost use Rattle.volume_store.specs.Writes.{cart_file, IsCart, with_file};
 ghost use Rattle.room_top.specs.Raw.{JoinTo};
-ghost use Rattle.room_top.specs.Put.{HasSize, HasOneFileMore, IsPut, IsFirstFile, IsSite, IsSiteFor, HasRoom, site_number, site_mark, site_volid};
+ghost use Rattle.room_top.specs.Put.{HasSize, HasOneFileMore, IsPut, IsFirstFile, IsSite};
+ghost use Rattle.room_top.specs.Put.{IsSiteFor, HasRoom, site_number, site_mark, site_volid};
 ghost use Rattle.room_top.specs.Stages.{StoreCause, Stores};
 
 use crate::Status;
@@ -31,15 +32,23 @@ pub fn store_file<D: Store>(
     requires size { HasSize bytes.now }
     requires ready { IsSiteFor cart.0 (length bytes.now) site.now }
     ensures later { (file : ℕ) → (D.view disk.old).faults file ≤ (D.view disk.new).faults file }
-    ensures cause { StoreCause ((D.view disk.old).faults (cart_file cart.0)) ((D.view disk.new).faults (cart_file cart.0)) result }
+    ensures cause { StoreCause ((D.view disk.old).faults (cart_file cart.0))
+        ((D.view disk.new).faults (cart_file cart.0)) result }
     ensures tells { (D.view disk.new).tells ≡ (D.view disk.old).tells }
-    ensures others { Told (D.view disk.old).tells (Others (cart_file cart.0) (D.view disk.old) (D.view disk.new)) }
-    ensures stored { Told (D.view disk.old).tells ((clock : ClockView) → IsSite clock cart.0 ((D.view disk.old).reads (cart_file cart.0)) site.now
-        → Stores (cart_file cart.0) clock cart.0 bytes.now (site_number site.now) (D.view disk.old) (D.view disk.new) result) }
-    ensures moments { Told (D.view disk.old).tells ((clock : ClockView) → IsSite clock cart.0 ((D.view disk.old).reads (cart_file cart.0)) site.now
+    ensures others { Told (D.view disk.old).tells
+        (Others (cart_file cart.0) (D.view disk.old) (D.view disk.new)) }
+    ensures stored { Told (D.view disk.old).tells
+        ((clock : ClockView)
+        → IsSite clock cart.0 ((D.view disk.old).reads (cart_file cart.0)) site.now
+        → Stores (cart_file cart.0) clock cart.0 bytes.now (site_number site.now) (D.view disk.old)
+        (D.view disk.new) result) }
+    ensures moments { Told (D.view disk.old).tells
+        ((clock : ClockView)
+        → IsSite clock cart.0 ((D.view disk.old).reads (cart_file cart.0)) site.now
         → Settled (D.view disk.old) (cart_file cart.0)
         → Leaves (D.view disk.old) (D.view disk.new) (OnFile (cart_file cart.0)
-        (IsPut clock cart.0 bytes.now ((D.view disk.old).reads (cart_file cart.0))) (D.view disk.old))) }
+        (IsPut clock cart.0 bytes.now ((D.view disk.old).reads (cart_file cart.0)))
+        (D.view disk.old))) }
 {
     let Ok(mut buffer) = MuxBuffer::new(alloc) else {
         return Err(Status::Memory);
@@ -68,21 +77,28 @@ fn store_region<D: Store>(
     requires ready { HasRoom cart.0 count site.now }
     ensures cause { FileCause (cart_file cart.0) (D.view disk.old) (D.view disk.new) result }
     ensures tells { (D.view disk.new).tells ≡ (D.view disk.old).tells }
-    ensures others { Told (D.view disk.old).tells (Others (cart_file cart.0) (D.view disk.old) (D.view disk.new)) }
-    ensures stored { Told (D.view disk.old).tells ((clock : ClockView) (blocks : List (List ChunkText)) (bytes : List ℕ)
+    ensures others { Told (D.view disk.old).tells
+        (Others (cart_file cart.0) (D.view disk.old) (D.view disk.new)) }
+    ensures stored { Told (D.view disk.old).tells
+        ((clock : ClockView) (blocks : List (List ChunkText)) (bytes : List ℕ)
         → IsSealed (site_volid site.now) (site_mark site.now) blocks region.now
         → JoinTo (site_number site.now) blocks bytes
         → IsSite clock cart.0 ((D.view disk.old).reads (cart_file cart.0)) site.now
-        → OnOk result (HasOneFileMore clock cart.0 bytes ((D.view disk.old).reads (cart_file cart.0)) (site_number site.now)
+        → OnOk result
+        (HasOneFileMore clock cart.0 bytes ((D.view disk.old).reads (cart_file cart.0))
+        (site_number site.now)
         ((D.view disk.new).reads (cart_file cart.0)))) }
-    ensures settled { Told (D.view disk.old).tells (OnOk result (Settled (D.view disk.new) (cart_file cart.0))) }
-    ensures moments { Told (D.view disk.old).tells ((clock : ClockView) (blocks : List (List ChunkText)) (bytes : List ℕ)
+    ensures settled { Told (D.view disk.old).tells
+        (OnOk result (Settled (D.view disk.new) (cart_file cart.0))) }
+    ensures moments { Told (D.view disk.old).tells
+        ((clock : ClockView) (blocks : List (List ChunkText)) (bytes : List ℕ)
         → IsSealed (site_volid site.now) (site_mark site.now) blocks region.now
         → JoinTo (site_number site.now) blocks bytes
         → IsSite clock cart.0 ((D.view disk.old).reads (cart_file cart.0)) site.now
         → Settled (D.view disk.old) (cart_file cart.0)
         → Leaves (D.view disk.old) (D.view disk.new) (OnFile (cart_file cart.0)
-        (IsPut clock cart.0 bytes ((D.view disk.old).reads (cart_file cart.0))) (D.view disk.old))) }
+        (IsPut clock cart.0 bytes ((D.view disk.old).reads (cart_file cart.0)))
+        (D.view disk.old))) }
 {
     match site {
         Site::New(label) => store_first_file(disk, label, region, count),
@@ -104,7 +120,8 @@ fn store_first_file<D: Store>(
     requires sealed { (blocks : List (List ChunkText)) × (length blocks ≡ count)
         × IsSealed label.now.volid.0 1 blocks region.now }
     requires room { count + 3 ≤ label.now.capacity }
-    ensures cause { FileCause (cart_file label.now.cart.0) (D.view disk.old) (D.view disk.new) result }
+    ensures cause { FileCause (cart_file label.now.cart.0) (D.view disk.old)
+        (D.view disk.new) result }
     ensures tells { (D.view disk.new).tells ≡ (D.view disk.old).tells }
     ensures others { Told (D.view disk.old).tells
         (Others (cart_file label.now.cart.0) (D.view disk.old) (D.view disk.new)) }
@@ -118,7 +135,8 @@ fn store_first_file<D: Store>(
         → IsSealed label.now.volid.0 1 blocks region.now
         → Settled (D.view disk.old) (cart_file label.now.cart.0)
         → Leaves (D.view disk.old) (D.view disk.new) (OnFile (cart_file label.now.cart.0)
-        (IsFirstFile label.now blocks ((D.view disk.old).reads (cart_file label.now.cart.0))) (D.view disk.old))) }
+        (IsFirstFile label.now blocks ((D.view disk.old).reads (cart_file label.now.cart.0)))
+        (D.view disk.old))) }
 {
     write_label(disk, label)?;
     let mut volume = Volume {

@@ -10,12 +10,12 @@ use std::test::Fail;
 /// The file of cartridge 1.
 pub(crate) const FILE: u32 = 2;
 
-/// The device calls of a `put` of one data block: the label's sync and read; the first byte closed and
-/// synced; the label written and synced, opened and synced; the region and its mark likewise.
+/// The device calls of a `put` of one data block: the label's sync and read; the first byte closed
+/// and synced; the label written and synced, opened and synced; the region and its mark likewise.
 const PUT_CALLS: u64 = 12;
 
-/// Those of a second `put`: the label's sync and read, the length, two mark places; the region and its
-/// mark.
+/// Those of a second `put`: the label's sync and read, the length, two mark places; the region and
+/// its mark.
 const NEXT_CALLS: u64 = 9;
 
 /// The SHA-256 of the label block, as another program computes it.
@@ -252,7 +252,8 @@ fn inputs_and_words_are_judged(rt: HostRuntime) -> Result<(), Fail> {
     Ok(())
 }
 
-/// The call that fails of the input, the output, the errors and the clock, the status, and its line.
+/// The call that fails of the input, the output, the errors and the clock, the status, and its
+/// line.
 static FAILING: [(u64, u64, u64, u64, u8, &str); 5] = [
     (1, 0, 0, 0, 4, "room: read fault\n"),
     (2, 0, 0, 0, 4, "room: read fault\n"),
@@ -374,8 +375,8 @@ fn a_second_file_is_whole_or_absent_wherever_it_stops(rt: HostRuntime) -> Result
             }
         }
     }
-    // At each choice after all calls, and without the last sync where the letter is kept. Half of that one
-    // byte is nothing, and 0xFF is no letter.
+    // At each choice after all calls, and without the last sync where the letter is kept. Half of
+    // that one byte is nothing, and 0xFF is no letter.
     assert_eq!(rt; complete, 5, "the stops that leave the second file");
     Ok(())
 }

@@ -1,5 +1,6 @@
 ghost use Rattle.std.specs.Prelude.{◌≡◌, ◌≢◌, ◌<◌, ◌^◌, ℕ, decimal, map, string_bytes, MatchOption};
-ghost use Rattle.room_top.specs.Words.{IsCartWord, IsNoCartWord, IsFileWord, IsNoFileWord, IsMisfit, ReadsPut, ReadsGet, ReadsFile, ReadsWords};
+ghost use Rattle.room_top.specs.Words.{IsCartWord, IsNoCartWord, IsFileWord, IsNoFileWord};
+ghost use Rattle.room_top.specs.Words.{IsMisfit, ReadsPut, ReadsGet, ReadsFile, ReadsWords};
 
 use crate::Status;
 use itoa::Buffer;
@@ -98,7 +99,8 @@ fn file_number_of(word: &str) -> Option<u64>
 
 // The number that the word is, in digits without a leading zero.
 fn plain_number(word: &str) -> Option<u64>
-    ensures { MatchOption result ((number : ℕ) → number < 2 ^ 64 → word.now ≢ decimal number) (λ number. word.now ≡ decimal number) }
+    ensures { MatchOption result ((number : ℕ) → number < 2 ^ 64 → word.now ≢ decimal number)
+        (λ number. word.now ≡ decimal number) }
 {
     let number = word.parse::<u64>().ok()?;
     if Buffer::new().format(number) == word {

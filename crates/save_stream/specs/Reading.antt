@@ -1,5 +1,7 @@
 -- Reading from left to right: each field is judged when its last byte has come.
-use Rattle.std.specs.Prelude.{◌≡◌, ℕ, ◌+◌, ◌-◌, ◌<◌, ◌≤◌, Bool, true, false, ◌&&◌, not, ◌==◌, nat_lt, nat_le, List, [], ◌∷◌, ◌++◌, length, take, drop, slice_index, Option, Some, None, Result, Ok, Err, if◌then◌else◌}
+use Rattle.std.specs.Prelude.{◌≡◌, ℕ, ◌+◌, ◌-◌, ◌<◌, ◌≤◌, Bool, true, false, ◌&&◌, not, ◌==◌}
+use Rattle.std.specs.Prelude.{nat_lt, nat_le, List, [], ◌∷◌, ◌++◌, length, take, drop, slice_index}
+use Rattle.std.specs.Prelude.{Option, Some, None, Result, Ok, Err, if◌then◌else◌}
 use Rattle.std.specs.List.{list_all}
 use Rattle.std.specs.Ordering.{nat_cmp, is_lt}
 use Rattle.std.specs.Cmp.Lexicographic.{slice_cmp}
@@ -32,7 +34,8 @@ read_alone part = part >>= λ x. Ok x.0
 
 -- a field that begins these bytes is judged
 abbrev pub checked : {X : Type 0} → (X → Bool) → List ℕ → Part X → Part X
-checked allows bytes part = part >>= λ x. if allows x.0 then Ok x else Err (stops.Wrong (length bytes))
+checked allows bytes part =
+    part >>= λ x. if allows x.0 then Ok x else Err (stops.Wrong (length bytes))
 
 -- What a function returned, seen by view, is what reading gives, unless memory ran out.
 abbrev pub Stops : {Y : Type 0} → Stop → Result Y Stop → Type 0
@@ -58,10 +61,13 @@ byte_at (byte ∷ rest) = Ok (byte, rest)
 
 -- a number of so many bytes
 unfoldable pub number_at : ℕ → List ℕ → Part ℕ
-number_at size bytes = if nat_lt (length bytes) size then Err stops.More else Ok (big_number size bytes, drop size bytes)
+number_at size bytes =
+    if nat_lt (length bytes) size then Err stops.More
+    else Ok (big_number size bytes, drop size bytes)
 
 unfoldable pub bytes_at : ℕ → List ℕ → Part (List ℕ)
-bytes_at size bytes = if nat_lt (length bytes) size then Err stops.More else Ok (take size bytes, drop size bytes)
+bytes_at size bytes =
+    if nat_lt (length bytes) size then Err stops.More else Ok (take size bytes, drop size bytes)
 
 -- a byte that is no control character of ASCII
 abbrev pub is_printable : ℕ → Bool
@@ -96,7 +102,8 @@ unfoldable pub level_at : ℕ → List ℕ → Part ℕ
 level_at base bytes = checked (is_level base) bytes (byte_at bytes)
 
 unfoldable pub moment_at : ℕ → List ℕ → Part ℕ
-moment_at least bytes = checked (λ moment. nat_le least moment && nat_le moment max_moment) bytes (number_at 8 bytes)
+moment_at least bytes =
+    checked (λ moment. nat_le least moment && nat_le moment max_moment) bytes (number_at 8 bytes)
 
 unfoldable pub numbers_at : List ℕ → Part HeadNumbers
 numbers_at bytes = do
@@ -166,12 +173,16 @@ pub record Front : Type 0 where
 
 -- the kind that a byte begins
 abbrev pub kind_of : ℕ → Option EntryKind
-kind_of byte = if byte == 0x46 then Some kinds.File else (if byte == 0x44 then Some kinds.Folder else (if byte == 0x47 then Some kinds.Gone else None))
+kind_of byte =
+    if byte == 0x46 then Some kinds.File
+    else (if byte == 0x44 then Some kinds.Folder
+    else (if byte == 0x47 then Some kinds.Gone else None))
 
 -- a kind, for an entry behind so many
 abbrev pub kind_among : ℕ → ℕ → Option EntryKind → List ℕ → Part EntryKind
 kind_among count behind None rest = Err (stops.Wrong behind)
-kind_among count behind (Some kind) rest = if nat_lt count max_entries then Ok (kind, rest) else Err stops.Full
+kind_among count behind (Some kind) rest =
+    if nat_lt count max_entries then Ok (kind, rest) else Err stops.Full
 
 unfoldable pub kind_at : ℕ → List ℕ → Part EntryKind
 kind_at count bytes = do
@@ -221,8 +232,8 @@ end_at count bytes = do
 -- ---- the stream
 
 -- what a reader has read of a stream: how many bytes, how many of them are still to come of a file,
--- whether the stream has ended, its head and entries, and the bytes of a head, an entry or an end that
--- isn't complete
+-- whether the stream has ended, its head and entries, and the bytes of a head, an entry or an end
+-- that isn't complete
 pub record Reading : Type 0 where
   pub read : ℕ
   pub left : ℕ
@@ -246,7 +257,8 @@ last_path (entry ∷ []) = entry.path
 last_path (entry ∷ next ∷ entries) = last_path (next ∷ entries)
 
 -- The pending bytes were read as far as they go. What they were read as is taken in by `done`.
-abbrev pub settled : {X : Type 0} → (X → Reading) → Reading → Result X Stop → Result Reading StreamFault
+abbrev pub settled : {X : Type 0} → (X → Reading) → Reading → Result X Stop
+    → Result Reading StreamFault
 settled done reading (Ok x) = Ok (done x)
 settled done reading (Err stops.More) = Ok reading
 settled done reading (Err (stops.Wrong behind)) = Err (faults.Bad (reading.read - behind))
@@ -258,10 +270,20 @@ with_head reading head = record reading { head = Some head; pending = [] }
 
 -- an entry, whose file's bytes begin behind those read
 abbrev pub entry_from : ℕ → Front → IndexEntry
-entry_from read front = record { kind = front.kind; path = front.path; mtime = front.mtime; size = front.size; place = place_of front.kind read }
+entry_from read front = record {
+  kind = front.kind;
+  path = front.path;
+  mtime = front.mtime;
+  size = front.size;
+  place = place_of front.kind read;
+}
 
 abbrev pub with_entry : Reading → Front → Reading
-with_entry reading front = record reading { left = front.size; entries = reading.entries ++ entry_from reading.read front ∷ []; pending = [] }
+with_entry reading front = record reading {
+  left = front.size;
+  entries = reading.entries ++ entry_from reading.read front ∷ [];
+  pending = [];
+}
 
 abbrev pub with_end : Reading → ℕ → Reading
 with_end reading count = record reading { ended = true; pending = [] }
@@ -272,14 +294,19 @@ begins_end bytes = slice_index bytes 0 == 0x45
 
 -- the pending bytes are read as the end, where they begin one, and else as an entry
 abbrev pub settle_by : Bool → Reading → Result Reading StreamFault
-settle_by true reading = settled (with_end reading) reading (read_alone (end_at (length reading.entries) reading.pending))
-settle_by false reading = settled (with_entry reading) reading (read_alone (front_at (length reading.entries) (last_path reading.entries) reading.pending))
+settle_by true reading =
+    settled (with_end reading) reading
+    (read_alone (end_at (length reading.entries) reading.pending))
+settle_by false reading =
+    settled (with_entry reading) reading
+    (read_alone (front_at (length reading.entries) (last_path reading.entries) reading.pending))
 
 abbrev pub settle_rest : Reading → Result Reading StreamFault
 settle_rest reading = settle_by (begins_end reading.pending) reading
 
 abbrev pub settle_from : Option SetHead → Reading → Result Reading StreamFault
-settle_from None reading = settled (with_head reading) reading (read_alone (head_at reading.pending))
+settle_from None reading =
+    settled (with_head reading) reading (read_alone (head_at reading.pending))
 settle_from (Some head) reading = settle_rest reading
 
 -- the pending bytes are read
@@ -288,7 +315,10 @@ settle reading = settle_from reading.head reading
 
 -- one more pending byte
 abbrev pub with_byte : Reading → ℕ → Reading
-with_byte reading byte = record reading { read = reading.read + 1; pending = reading.pending ++ byte ∷ [] }
+with_byte reading byte = record reading {
+  read = reading.read + 1;
+  pending = reading.pending ++ byte ∷ [];
+}
 
 -- so many bytes of a file
 abbrev pub passed : ℕ → Reading → Reading
@@ -296,10 +326,14 @@ passed count reading = record reading { read = reading.read + count; left = read
 
 -- the next byte of the stream
 abbrev pub after_byte : Reading → ℕ → Result Reading StreamFault
-after_byte reading byte = if reading.ended then Err (faults.Bad reading.read) else (if nat_lt 0 reading.left then Ok (passed 1 reading) else settle (with_byte reading byte))
+after_byte reading byte =
+    if reading.ended then Err (faults.Bad reading.read)
+    else (if nat_lt 0 reading.left then Ok (passed 1 reading)
+    else settle (with_byte reading byte))
 
 -- what was read is read on
-abbrev pub then_reads : Result Reading StreamFault → (Reading → Result Reading StreamFault) → Result Reading StreamFault
+abbrev pub then_reads : Result Reading StreamFault → (Reading → Result Reading StreamFault)
+    → Result Reading StreamFault
 then_reads (Ok reading) next = next reading
 then_reads (Err fault) next = Err fault
 
@@ -317,7 +351,8 @@ Faults (faults.Bad offset) read = read ≡ Err (faults.Bad offset)
 Faults (faults.TooMany limit) read = read ≡ Err (faults.TooMany limit)
 
 -- what was read is what reading gives, unless memory ran out
-abbrev pub FollowsReading : {T : Type 0} → Result Reading StreamFault → Result T StreamFault → Reading → Type 0
+abbrev pub FollowsReading : {T : Type 0} → Result Reading StreamFault → Result T StreamFault
+    → Reading → Type 0
 FollowsReading read (Ok _) new = read ≡ Ok new
 FollowsReading read (Err fault) new = Faults fault read
 
@@ -339,7 +374,14 @@ KeepsHead (Some head) new = new ≡ Some head
 
 -- behind a head and whole entries
 abbrev pub between : SetHead → ℕ → List IndexEntry → Reading
-between head read entries = record { read = read; left = 0; ended = false; head = Some head; entries = entries; pending = [] }
+between head read entries = record {
+  read = read;
+  left = 0;
+  ended = false;
+  head = Some head;
+  entries = entries;
+  pending = [];
+}
 
 -- behind a whole stream
 abbrev pub at_end : SetHead → ℕ → List IndexEntry → Reading
@@ -348,4 +390,5 @@ at_end head read entries = record (between head read entries) { ended = true }
 -- the pieces of a stream, one after the other
 abbrev pub reads_all : Reading → List (List ℕ) → Result Reading StreamFault
 reads_all reading [] = Ok reading
-reads_all reading (piece ∷ pieces) = then_reads (reads reading piece) (λ next. reads_all next pieces)
+reads_all reading (piece ∷ pieces) =
+    then_reads (reads reading piece) (λ next. reads_all next pieces)

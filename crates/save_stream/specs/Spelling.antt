@@ -1,5 +1,6 @@
 -- The grammar of a stream on whole texts: what heads and entries may be, and how they are spelled.
-use Rattle.std.specs.Prelude.{◌≡◌, ◌↔◌, ℕ, ◌+◌, ◌≤◌, ◌<◌, ◌^◌, List, [], ◌∷◌, ◌++◌, length, take, drop}
+use Rattle.std.specs.Prelude.{◌≡◌, ◌↔◌, ℕ, ◌+◌, ◌≤◌, ◌<◌, ◌^◌, List, [], ◌∷◌, ◌++◌, length, take}
+use Rattle.std.specs.Prelude.{drop}
 use Rattle.std.specs.List.{flat_map, AllByRecursion}
 use Rattle.std.specs.Ordering.{nat_cmp}
 use Rattle.std.specs.Cmp.Lexicographic.{slice_cmp}
@@ -49,12 +50,14 @@ short_text text = length text ∷ text
 
 -- a head up to its texts
 abbrev pub head_numbers : SetHead → List ℕ
-head_numbers head = (0x48 ∷ []) ++ number_text head.ssid.0 ++ number_text head.base.0 ++ (head.level ∷ [])
+head_numbers head =
+    (0x48 ∷ []) ++ number_text head.ssid.0 ++ number_text head.base.0 ++ (head.level ∷ [])
     ++ number_text head.saved.0 ++ number_text head.browse.0 ++ number_text head.retain.0
 
 -- how a head is spelled
 abbrev pub head_text : SetHead → List ℕ
-head_text head = head_numbers head ++ short_text head.client ++ short_text head.set ++ short_text head.group
+head_text head =
+    head_numbers head ++ short_text head.client ++ short_text head.set ++ short_text head.group
     ++ short_text head.pool
 
 -- ---- entries
@@ -107,7 +110,8 @@ long_text text = short_number_text (length text) ++ text
 
 -- an entry up to the bytes of its file
 abbrev pub entry_front : EntryKind → List ℕ → ℕ → ℕ → List ℕ
-entry_front kinds.File path mtime size = (0x46 ∷ []) ++ long_text path ++ number_text mtime ++ number_text size
+entry_front kinds.File path mtime size =
+    (0x46 ∷ []) ++ long_text path ++ number_text mtime ++ number_text size
 entry_front kinds.Folder path mtime size = (0x44 ∷ []) ++ long_text path ++ number_text mtime
 entry_front kinds.Gone path mtime size = (0x47 ∷ []) ++ long_text path
 
@@ -150,13 +154,15 @@ index_entry at entry = record {
   path = entry.path;
   mtime = entry.mtime;
   size = length entry.bytes;
-  place = place_of entry.kind (at + length (entry_front entry.kind entry.path entry.mtime (length entry.bytes)));
+  place = place_of entry.kind
+      (at + length (entry_front entry.kind entry.path entry.mtime (length entry.bytes)));
 }
 
 -- the index of entries, of which the first begins here
 abbrev pub index_from : ℕ → List Saved → List IndexEntry
 index_from at [] = []
-index_from at (entry ∷ entries) = index_entry at entry ∷ index_from (at + length (entry_text entry)) entries
+index_from at (entry ∷ entries) =
+    index_entry at entry ∷ index_from (at + length (entry_text entry)) entries
 
 -- a text is a whole stream, of this head and these entries
 abbrev pub StreamText : List ℕ → SetHead → List Saved → Type 0

@@ -1,8 +1,10 @@
 //! Writes the head of a stream.
 
-ghost use Rattle.std.specs.Prelude.{◌≡◌, ◌+◌, ◌≤◌, ◌++◌, ◌∷◌, [], length, IfOk, vec_len, vec_capacity};
+ghost use Rattle.std.specs.Prelude.{◌≡◌, ◌+◌, ◌≤◌, ◌++◌, ◌∷◌, [], length, IfOk, vec_len};
+ghost use Rattle.std.specs.Prelude.{vec_capacity};
 ghost use Rattle.save_stream.specs.Heads.{head_of_parts};
-ghost use Rattle.save_stream.specs.Spelling.{IsHead, head_text, head_numbers, number_text, short_text};
+ghost use Rattle.save_stream.specs.Spelling.{IsHead, head_text, head_numbers, number_text};
+ghost use Rattle.save_stream.specs.Spelling.{short_text};
 
 use crate::{HeadParts, SetHead};
 use room_base::{Memory, Name};
@@ -25,10 +27,12 @@ pub fn encode_head(alloc: Global, head: &SetHead) -> Result<Vec<u8>, Memory>
     Ok(bytes)
 }
 
-/// Appends the one spelling of the head of these parts. There is room for it, and no memory is taken.
+/// Appends the one spelling of the head of these parts. There is room for it, and no memory is
+/// taken.
 pub fn encode_head_into(parts: &HeadParts, into: &mut Vec<u8>)
     requires allowed { IsHead (head_of_parts parts.now) }
-    requires room { vec_len into.old + length (head_text (head_of_parts parts.now)) ≤ vec_capacity into.old }
+    requires room { vec_len into.old + length
+        (head_text (head_of_parts parts.now)) ≤ vec_capacity into.old }
     ensures items { into.new.items ≡ into.old.items ++ head_text (head_of_parts parts.now) }
     ensures capacity { vec_capacity into.new ≡ vec_capacity into.old }
 {

@@ -1,7 +1,8 @@
 //! Reads an entry up to the bytes of its file, and the end.
 
 ghost use Rattle.std.specs.Prelude.{◌≡◌};
-ghost use Rattle.save_stream.specs.Reading.{GivesField, kind_at, kind_of, is_below, path_at, mtime_at, size_at, front_at, end_at};
+ghost use Rattle.save_stream.specs.Reading.{GivesField, kind_at, kind_of, is_below, path_at};
+ghost use Rattle.save_stream.specs.Reading.{mtime_at, size_at, front_at, end_at};
 ghost use Rattle.save_stream.specs.Texts.{front_from};
 
 use crate::field::{allow, byte_of, bytes_of, expect_byte, u16_of, u64_of};
@@ -22,15 +23,16 @@ pub(crate) struct EntryFront<'a> {
     pub(crate) size: u64,
 }
 
-/// The entry that begins these bytes. `count` entries stand before it, and `last` is the path of the
-/// last of them.
+/// The entry that begins these bytes. `count` entries stand before it, and `last` is the path of
+/// the last of them.
 #[tactic(auto, unfolding(crate::specs::Reading::front_at))]
 pub(crate) fn front_of<'a>(
     count: usize,
     last: &[u8],
     bytes: &'a [u8],
 ) -> Result<(EntryFront<'a>, &'a [u8]), Stop>
-    ensures { GivesField (λ x. (front_from x.0, x.1.now)) result (front_at count last.now bytes.now) }
+    ensures { GivesField (λ x. (front_from x.0, x.1.now)) result
+        (front_at count last.now bytes.now) }
 {
     let (kind, rest) = next_kind_of(count, bytes)?;
     let (path, rest) = path_of(last, rest)?;

@@ -1,6 +1,7 @@
 //! Reads single fields.
 
-ghost use Rattle.save_stream.specs.Reading.{GivesField, Allows, byte_at, number_at, bytes_at, text_at, given_byte_at};
+ghost use Rattle.save_stream.specs.Reading.{GivesField, Allows, byte_at, number_at, bytes_at};
+ghost use Rattle.save_stream.specs.Reading.{text_at, given_byte_at};
 
 use crate::stop::Stop;
 use byteorder::{BigEndian, ByteOrder};

@@ -2,7 +2,9 @@
 
 ghost use Rattle.std.specs.Prelude.{◌≡◌, ◌≤◌, IfOk, IsTrue};
 ghost use Rattle.save_stream.specs.Heads.{ReadsHead};
-ghost use Rattle.save_stream.specs.Reading.{GivesField, HeadNames, head_from, ssid_at, base_at, level_at, is_level, moment_at, numbers_at, names_at, head_at};
+ghost use Rattle.save_stream.specs.Reading.{GivesField, HeadNames, head_from, ssid_at, base_at};
+ghost use Rattle.save_stream.specs.Reading.{level_at, is_level, moment_at, numbers_at, names_at};
+ghost use Rattle.save_stream.specs.Reading.{head_at};
 ghost use Rattle.save_stream.specs.Texts.{names_of};
 
 use crate::encode::HEAD_KIND;

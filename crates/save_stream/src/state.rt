@@ -9,12 +9,12 @@ use crate::StreamFault;
 use crate::progress::Progress;
 use std::alloc::Global;
 
-/// The most bytes of a head, an entry up to those of its file, or an end: an entry of a file with the
-/// longest path.
+/// The most bytes of a head, an entry up to those of its file, or an end: an entry of a file with
+/// the longest path.
 const MAX_ITEM: usize = 1043;
 
-/// The most bytes that are pending while a piece is taken: an item that was begun before it, and one that
-/// is cut off behind it.
+/// The most bytes that are pending while a piece is taken: an item that was begun before it, and
+/// one that is cut off behind it.
 pub(crate) const MAX_PENDING: usize = 2 * MAX_ITEM;
 
 /// What is read of a stream, with the bytes of an item that isn't complete.
@@ -57,7 +57,8 @@ impl State {
 
     /// Goes back to what the state was, when a part of a piece was taken since.
     pub(crate) fn go_back(&mut self, savepoint: Savepoint)
-        ensures { (old : State) → IsSavepoint savepoint old → Keeps old self.old → reading_of self.new ≡ reading_of old }
+        ensures { (old : State) → IsSavepoint savepoint old → Keeps old self.old
+            → reading_of self.new ≡ reading_of old }
     {
         self.progress.read = savepoint.read;
         self.progress.left = savepoint.left;
@@ -74,7 +75,8 @@ impl State {
     pub(crate) fn take(&mut self, alloc: Global, piece: &[u8]) -> Result<(), StreamFault>
         requires room { self.old.progress.read + length piece.now ≤ 2 ^ 36 }
         requires waiting { IsWaiting (reading_of self.old) }
-        ensures read { FollowsReading (reads (reading_of self.old) piece.now) result (reading_of self.new) }
+        ensures read { FollowsReading (reads (reading_of self.old) piece.now) result
+            (reading_of self.new) }
         ensures kept { OnErr result (Keeps self.old self.new) }
     {
         let mut rest = piece;

@@ -111,7 +111,8 @@ fn head_alone_has_its_faults(rt: HostRuntime) -> Result<(), Fail> {
     let head = sample_head(alloc)?;
     let all = changed(alloc, &BODY, 200, 0)?;
     assert!(rt;
-        matches!(read_head(alloc, &all), Ok((read, rest)) if read == head && rest == BODY.as_slice())
+        matches!(read_head(alloc, &all), Ok((read, rest)) if read == head && rest ==
+            BODY.as_slice())
     );
     assert!(rt; matches!(read_head(alloc, &HEAD[..69]), Err(HeadFault::Incomplete)));
     let bad = changed(alloc, &BODY, 53, 0x1f)?;
@@ -158,8 +159,8 @@ fn folders_and_what_is_gone_are_read(rt: HostRuntime) -> Result<(), Fail> {
     Ok(())
 }
 
-// A byte of the head and the two files, what stands there in its place, and where the field begins that
-// is then bad.
+// A byte of the head and the two files, what stands there in its place, and where the field begins
+// that is then bad.
 static BAD_FIELDS: [(usize, u8, u64); 28] = [
     (0, b'E', 0),
     (8, 0, 1),

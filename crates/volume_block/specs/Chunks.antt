@@ -19,7 +19,8 @@ pub record IsChunk (chunk : ChunkText) : Type 0 where
 
 -- the bytes of a chunk before those of its stream, of which there are `count`
 abbrev pub chunk_head : ℕ → ℕ → ℕ → ℕ → List ℕ
-chunk_head ssid copy offset count = big_bytes 8 ssid ++ big_bytes 4 copy ++ big_bytes 8 offset ++ big_bytes 4 count
+chunk_head ssid copy offset count =
+    big_bytes 8 ssid ++ big_bytes 4 copy ++ big_bytes 8 offset ++ big_bytes 4 count
 
 -- how a chunk is spelled
 abbrev pub chunk_text : ChunkText → List ℕ
@@ -59,7 +60,8 @@ abbrev pub JoinFrom : ℕ → ℕ → ℕ → List ChunkText → List ℕ → Ty
 JoinFrom ssid copy offset [] bytes = bytes ≡ []
 JoinFrom ssid copy offset (chunk ∷ chunks) bytes =
     (chunk.ssid ≡ ssid) × (chunk.copy ≡ copy) × (chunk.offset ≡ offset)
-    × ((rest : List ℕ) × (bytes ≡ chunk.bytes ++ rest) × JoinFrom ssid copy (offset + length chunk.bytes) chunks rest)
+    × ((rest : List ℕ) × (bytes ≡ chunk.bytes ++ rest)
+    × JoinFrom ssid copy (offset + length chunk.bytes) chunks rest)
 
 -- the bytes of chunks, in their order
 abbrev pub joined : List ChunkText → List ℕ

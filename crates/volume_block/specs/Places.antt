@@ -1,18 +1,23 @@
 -- Where chunks stand in a data block.
-use Rattle.std.specs.Prelude.{◌≡◌, ℕ, ◌+◌, List, [], ◌∷◌, ◌++◌, length, take, drop, Option, Some, None}
+use Rattle.std.specs.Prelude.{◌≡◌, ℕ, ◌+◌, List, [], ◌∷◌, ◌++◌, length, take, drop, Option, Some}
+use Rattle.std.specs.Prelude.{None}
 use Rattle.volume_block.specs.Chunks.{ChunkText, chunks_text}
 use Rattle.volume_block.specs.Valid.{HoldsChunks}
 use Rattle.volume_block.specs.declared.block.Chunk.{Chunk}
 
 -- a data block of these chunks, with so many bytes before the second list
-pub record SplitsAt (bytes : List ℕ) (volid number place : ℕ) (before after : List ChunkText) : Type 0 where
+pub record SplitsAt (bytes : List ℕ) (volid number place : ℕ)
+    (before after : List ChunkText) : Type 0 where
   pub holds : HoldsChunks bytes volid number (before ++ after)
   pub stands : place ≡ length (chunks_text before)
 
 -- a place in a valid data block where a chunk begins, or behind the last
 abbrev pub IsChunkPlace : List ℕ → ℕ → Type 0
 IsChunkPlace bytes place =
-    (volid : ℕ) × ((number : ℕ) × ((before : List ChunkText) × ((after : List ChunkText) × SplitsAt bytes volid number place before after)))
+    (volid : ℕ)
+    × ((number : ℕ)
+    × ((before : List ChunkText)
+    × ((after : List ChunkText) × SplitsAt bytes volid number place before after)))
 
 -- what is found of a chunk that begins at this place
 pub record IsFound (bytes : List ℕ) (place : ℕ) (chunk : ChunkText) (found : Chunk) : Type 0 where

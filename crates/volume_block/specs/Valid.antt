@@ -1,5 +1,6 @@
 -- What a valid block is: it is spelled as its fields say.
-use Rattle.std.specs.Prelude.{◌≡◌, ◌≢◌, ℕ, ◌-◌, ◌≤◌, ◌<◌, ◌^◌, List, [], ◌∷◌, ◌++◌, length, take, drop, replicate, All}
+use Rattle.std.specs.Prelude.{◌≡◌, ◌≢◌, ℕ, ◌-◌, ◌≤◌, ◌<◌, ◌^◌, List, [], ◌∷◌, ◌++◌, length, take}
+use Rattle.std.specs.Prelude.{drop, replicate, All}
 use Rattle.byteorder.specs.Endian.{big_bytes}
 use Rattle.room_base.specs.Text.{IsName}
 use Rattle.room_base.specs.Numbers.{max_moment}
@@ -35,12 +36,15 @@ pub record IsLabel (label : Label) : Type 0 where
 -- the fields of a label that is read are in their ranges
 abbrev pub HasRanges : Label → Type 0
 HasRanges label =
-    ((1 ≤ label.cart.0) × (label.cart.0 ≤ 256)) × ((67 ≤ label.capacity) × (label.capacity ≤ 1000000))
-    × (label.made.0 ≤ max_moment) × (1 ≤ label.pool_length) × IsName (take label.pool_length label.pool)
+    ((1 ≤ label.cart.0) × (label.cart.0 ≤ 256))
+    × ((67 ≤ label.capacity) × (label.capacity ≤ 1000000))
+    × (label.made.0 ≤ max_moment) × (1 ≤ label.pool_length)
+    × IsName (take label.pool_length label.pool)
 
 -- a label's payload up to the length of its pool
 abbrev pub label_fields : Label → List ℕ
-label_fields label = big_bytes 4 label.cart.0 ++ big_bytes 4 label.capacity ++ big_bytes 8 label.made.0
+label_fields label =
+    big_bytes 4 label.cart.0 ++ big_bytes 4 label.capacity ++ big_bytes 8 label.made.0
     ++ (label.pool_length ∷ [])
 
 -- a label's payload
@@ -69,7 +73,8 @@ pub record AreChunks (chunks : List ChunkText) : Type 0 where
   pub fit : length (chunks_text chunks) ≤ 4040
   pub each : All IsChunk chunks
 
--- the chunks stand in their place in a block's bytes, and fill the first `used` bytes of the payload
+-- the chunks stand in their place in a block's bytes, and fill the first `used` bytes of the
+-- payload
 pub record FillPayload (chunks : List ChunkText) (used : ℕ) (bytes : List ℕ) : Type 0 where
   pub allowed : AreChunks chunks
   pub text : take used (drop 56 bytes) ≡ chunks_text chunks
@@ -88,4 +93,5 @@ ValidBlock bytes volid number (kinds.Label label) =
 ValidBlock bytes volid number (kinds.Mark count) =
     IsVolid volid × IsNumber number × IsCount count × (bytes ≡ mark_text volid number count)
 ValidBlock bytes volid number (kinds.Data used) =
-    (chunks : List ChunkText) × HoldsChunks bytes volid number chunks × (used ≡ length (chunks_text chunks))
+    (chunks : List ChunkText) × HoldsChunks bytes volid number chunks
+    × (used ≡ length (chunks_text chunks))

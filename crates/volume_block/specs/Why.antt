@@ -1,5 +1,6 @@
 -- Why bytes are no valid block: the first part that is wrong.
-use Rattle.std.specs.Prelude.{◌≡◌, ◌⊎◌, ℕ, ◌+◌, ◌-◌, ◌≤◌, ◌<◌, List, ◌++◌, length, take, drop, replicate, slice_index}
+use Rattle.std.specs.Prelude.{◌≡◌, ◌⊎◌, ℕ, ◌+◌, ◌-◌, ◌≤◌, ◌<◌, List, ◌++◌, length, take, drop}
+use Rattle.std.specs.Prelude.{replicate, slice_index}
 use Rattle.byteorder.specs.Endian.{big_number}
 use Rattle.sha2.specs.Sha256.{sha256}
 use Rattle.volume_block.specs.Valid.{IsLabel, label_payload, IsCount, AreChunks}
@@ -38,7 +39,8 @@ HasForm bytes = (slice_index bytes 1 ≡ 1) × (slice_index bytes 2 ≡ 0) × (s
 
 -- the payload has room, and zeros stand behind it
 abbrev pub IsPadded : List ℕ → Type 0
-IsPadded bytes = (used_in bytes ≤ 4040) × (drop (56 + used_in bytes) bytes ≡ replicate (4040 - used_in bytes) 0)
+IsPadded bytes =
+    (used_in bytes ≤ 4040) × (drop (56 + used_in bytes) bytes ≡ replicate (4040 - used_in bytes) 0)
 
 -- the digest is that of the bytes before and behind it
 abbrev pub HasDigest : List ℕ → Type 0
@@ -46,7 +48,8 @@ HasDigest bytes = take 32 (drop 24 bytes) ≡ sha256 (take 24 bytes ++ drop 56 b
 
 -- the payload of a label, of a mark, of a data block
 abbrev pub IsLabelIn : ℕ → List ℕ → Label → Type 0
-IsLabelIn volid payload label = IsLabel label × (label.volid.0 ≡ volid) × (payload ≡ label_payload label)
+IsLabelIn volid payload label =
+    IsLabel label × (label.volid.0 ≡ volid) × (payload ≡ label_payload label)
 
 abbrev pub IsCountIn : List ℕ → ℕ → Type 0
 IsCountIn payload count = IsCount count × (payload ≡ big_bytes 4 count)
@@ -87,7 +90,8 @@ rank_of reasons.Payload = 6
 
 -- every part before this place in the order is right
 abbrev pub AreRightBelow : ℕ → List ℕ → ℕ → ℕ → Type 0
-AreRightBelow rank bytes volid number = (part : Reason) → rank_of part < rank → IsRight part bytes volid number
+AreRightBelow rank bytes volid number =
+    (part : Reason) → rank_of part < rank → IsRight part bytes volid number
 
 -- the first part that is wrong
 pub record Why (bytes : List ℕ) (volid number : ℕ) (why : Reason) : Type 0 where
@@ -99,4 +103,5 @@ abbrev pub SaysBlock : ℕ → ℕ → List ℕ → Block → Type 0
 SaysBlock kind volid payload (kinds.Label label) = (kind ≡ 0x4C) × IsLabelIn volid payload label
 SaysBlock kind volid payload (kinds.Mark count) = (kind ≡ 0x46) × IsCountIn payload count
 SaysBlock kind volid payload (kinds.Data used) =
-    (kind ≡ 0x44) × (used ≡ length payload) × ((chunks : List ChunkText) × AreChunksIn payload chunks)
+    (kind ≡ 0x44) × (used ≡ length payload)
+    × ((chunks : List ChunkText) × AreChunksIn payload chunks)

@@ -39,7 +39,8 @@ pub enum Reason {
 }
 
 /// Where one chunk stands in a data block's payload: `length` bytes of a save set's stream from
-/// `offset` on, which stand in the block from byte `start` on. `next` is where the next chunk begins.
+/// `offset` on, which stand in the block from byte `start` on. `next` is where the next chunk
+/// begins.
 #[derive(Clone, Copy, Debug, PartialEq, Eq)]
 pub struct Chunk {
     pub ssid: Ssid,

@@ -1,7 +1,9 @@
 //! Reads the chunks of a data block.
 
-ghost use Rattle.std.specs.Prelude.{◌≡◌, ◌≢◌, ◌≤◌, ◌+◌, ◌^◌, ◌++◌, ◌↔◌, ℕ, List, length, IfSome, IsTrue, MatchOption};
-ghost use Rattle.volume_block.specs.Chunks.{ChunkText, IsChunk, chunk_text, ssid_in, copy_in, offset_in, count_in, IsFirstChunk};
+ghost use Rattle.std.specs.Prelude.{◌≡◌, ◌≢◌, ◌≤◌, ◌+◌, ◌^◌, ◌++◌, ◌↔◌, ℕ, List, length, IfSome};
+ghost use Rattle.std.specs.Prelude.{IsTrue, MatchOption};
+ghost use Rattle.volume_block.specs.Chunks.{ChunkText, IsChunk, chunk_text, ssid_in, copy_in};
+ghost use Rattle.volume_block.specs.Chunks.{offset_in, count_in, IsFirstChunk};
 ghost use Rattle.volume_block.specs.Places.{SplitsAt, IsChunkPlace, FindsFirst};
 ghost use Rattle.volume_block.specs.Why.{AreChunksIn};
 
@@ -13,12 +15,13 @@ use room_base::{CopyNo, Ssid};
 /// A save set's stream has no byte from here on.
 const STREAM_LIMIT: u64 = 1 << 36;
 
-/// Finds the chunk of a valid data block that begins at this place: 0, or `next` of the chunk before.
-/// There is none behind the last chunk.
+/// Finds the chunk of a valid data block that begins at this place: 0, or `next` of the chunk
+/// before. There is none behind the last chunk.
 pub fn next_chunk(bytes: &[u8], at: u32) -> Option<Chunk>
     requires whole { length bytes.now ≡ 4096 }
     requires place { IsChunkPlace bytes.now at }
-    ensures found { (volid number : ℕ) (before after : List ChunkText) → SplitsAt bytes.now volid number at before after → FindsFirst bytes.now at after result }
+    ensures found { (volid number : ℕ) (before after : List ChunkText)
+        → SplitsAt bytes.now volid number at before after → FindsFirst bytes.now at after result }
     ensures again { IfSome result (λ found. IsChunkPlace bytes.now found.next) }
 {
     if at == used_length(bytes) {
@@ -61,7 +64,9 @@ fn head_in(text: &[u8]) -> ChunkHead
 }
 
 fn is_allowed(head: &ChunkHead) -> bool
-    ensures { IsTrue result ↔ ((1 ≤ head.now.ssid) × (1 ≤ head.now.copy) × (1 ≤ head.now.count) × (head.now.offset + head.now.count ≤ 2 ^ 36)) }
+    ensures { IsTrue result
+        ↔ ((1 ≤ head.now.ssid) × (1 ≤ head.now.copy) × (1 ≤ head.now.count)
+        × (head.now.offset + head.now.count ≤ 2 ^ 36)) }
 {
     head.ssid >= 1
         && head.copy >= 1
@@ -72,7 +77,9 @@ fn is_allowed(head: &ChunkHead) -> bool
 // How many bytes the first chunk takes, where a chunk begins the text.
 fn first_chunk_size(text: &[u8]) -> Option<usize>
     requires { length text.now ≤ 4040 }
-    ensures { MatchOption result ((chunk : ChunkText) (tail : List ℕ) → IsChunk chunk → text.now ≢ chunk_text chunk ++ tail) (λ size. (chunk : ChunkText) × IsFirstChunk text.now size chunk) }
+    ensures { MatchOption result
+        ((chunk : ChunkText) (tail : List ℕ) → IsChunk chunk → text.now ≢ chunk_text chunk ++ tail)
+        (λ size. (chunk : ChunkText) × IsFirstChunk text.now size chunk) }
 {
     if text.len() < CHUNK_HEAD_SIZE {
         return None;

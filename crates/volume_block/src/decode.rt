@@ -1,7 +1,9 @@
 //! Reads blocks. None of these functions takes memory.
 
 ghost use Rattle.std.specs.Prelude.{◌≡◌, ◌≤◌, ◌↔◌, length, All, IsTrue, MatchOption, MatchResult};
-ghost use Rattle.volume_block.specs.Why.{IsKindAt, HasForm, IsPadded, HasDigest, volid_in, number_in, payload_in, AreRightBelow, IsPayload, SaysBlock, Why};
+ghost use Rattle.volume_block.specs.Why.{IsKindAt, HasForm, IsPadded, HasDigest, volid_in};
+ghost use Rattle.volume_block.specs.Why.{number_in, payload_in, AreRightBelow, IsPayload};
+ghost use Rattle.volume_block.specs.Why.{SaysBlock, Why};
 ghost use Rattle.volume_block.specs.Valid.{ValidBlock};
 
 use crate::block::{BadBlock, Block, PAYLOAD_SIZE, Reason};
@@ -19,7 +21,8 @@ use room_base::Volid;
 /// Reads the block with this number of this volume. Of several wrong parts the first is named.
 pub fn decode_block(bytes: &[u8], volid: Volid, number: u64) -> Result<Block, BadBlock>
     requires { length bytes.now ≡ 4096 }
-    ensures decoded { MatchResult result (ValidBlock bytes.now volid.0 number) (λ bad. Why bytes.now volid.0 number bad.why) }
+    ensures decoded { MatchResult result (ValidBlock bytes.now volid.0 number)
+        (λ bad. Why bytes.now volid.0 number bad.why) }
     ensures only { (block : Block) → ValidBlock bytes.now volid.0 number block → result ≡ Ok block }
 {
     if let Some(why) = fault_before_payload(bytes, volid, number) {
@@ -36,8 +39,11 @@ pub fn decode_block(bytes: &[u8], volid: Volid, number: u64) -> Result<Block, Ba
 /// Reads the label of a volume whose volid is not known before.
 pub fn decode_label(bytes: &[u8]) -> Result<Label, BadBlock>
     requires { length bytes.now ≡ 4096 }
-    ensures decoded { MatchResult result (λ label. ValidBlock bytes.now label.volid.0 0 (Block.Label label)) (λ bad. Why bytes.now (volid_in bytes.now) 0 bad.why) }
-    ensures only { (label : Label) → ValidBlock bytes.now label.volid.0 0 (Block.Label label) → result ≡ Ok label }
+    ensures decoded { MatchResult result
+        (λ label. ValidBlock bytes.now label.volid.0 0 (Block.Label label))
+        (λ bad. Why bytes.now (volid_in bytes.now) 0 bad.why) }
+    ensures only { (label : Label) → ValidBlock bytes.now label.volid.0 0 (Block.Label label)
+        → result ≡ Ok label }
 {
     let volid = Volid(BigEndian::read_u64(&bytes[VOLID_PLACE..]));
     if let Some(why) = fault_before_payload(bytes, volid, 0) {
@@ -55,7 +61,8 @@ pub fn decode_label(bytes: &[u8]) -> Result<Label, BadBlock>
 fn block_in(kind: u8, volid: Volid, payload: &[u8]) -> Option<Block>
     requires volume { 1 ≤ volid.0 }
     requires fits { length payload.now ≤ 4040 }
-    ensures { MatchOption result (¬ IsPayload kind volid.0 payload.now) (SaysBlock kind volid.0 payload.now) }
+    ensures { MatchOption result (¬ IsPayload kind volid.0 payload.now)
+        (SaysBlock kind volid.0 payload.now) }
 {
     match kind {
         LABEL_KIND => Some(Block::Label(label_in(volid, payload)?)),
@@ -135,7 +142,8 @@ fn has_number(bytes: &[u8], number: u64) -> bool
 // The first wrong part before the payload.
 fn fault_before_payload(bytes: &[u8], volid: Volid, number: u64) -> Option<Reason>
     requires { length bytes.now ≡ 4096 }
-    ensures { MatchOption result (AreRightBelow 6 bytes.now volid.0 number) (Why bytes.now volid.0 number) }
+    ensures { MatchOption result (AreRightBelow 6 bytes.now volid.0 number)
+        (Why bytes.now volid.0 number) }
 {
     if !is_kind_at(bytes[0], number) {
         Some(Reason::Kind)

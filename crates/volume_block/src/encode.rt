@@ -3,7 +3,8 @@
 ghost use Rattle.std.specs.Prelude.{◌≡◌, ◌≤◌, ◌++◌, ◌+◌, List, length, take, drop};
 ghost use Rattle.volume_block.specs.Layout.{block_text};
 ghost use Rattle.volume_block.specs.Chunks.{ChunkText, chunk_head};
-ghost use Rattle.volume_block.specs.Valid.{IsLabel, IsCount, FillPayload, HoldsChunks, ValidBlock, label_fields, label_payload, label_text, mark_text};
+ghost use Rattle.volume_block.specs.Valid.{IsLabel, IsCount, FillPayload, HoldsChunks, ValidBlock};
+ghost use Rattle.volume_block.specs.Valid.{label_fields, label_payload, label_text, mark_text};
 
 use crate::layout::{
     DATA_KIND, LABEL_FIELDS_SIZE, LABEL_KIND, MARK_KIND, MARK_USED, PAYLOAD_START,
@@ -29,7 +30,8 @@ pub fn encode_label(label: &Label, into: &mut [u8])
 fn write_label_payload(label: &Label, payload: &mut [u8])
     requires pool { label.now.pool_length ≤ 64 }
     requires room { 81 ≤ length payload.old }
-    ensures { payload.new ≡ label_payload label.now ++ drop (17 + label.now.pool_length) payload.old }
+    ensures { payload.new
+        ≡ label_payload label.now ++ drop (17 + label.now.pool_length) payload.old }
 {
     write_label_fields(label, payload);
     let pool = &label.pool[..label.pool_length as usize];
@@ -61,16 +63,18 @@ pub fn encode_mark(volid: Volid, number: u64, count: u32, into: &mut [u8])
     finish_block(MARK_KIND, volid.0, number, MARK_USED, into);
 }
 
-/// Makes a data block of the chunks that stand in their place and fill the first `used` bytes of the
-/// payload. The bytes behind them become zeros.
+/// Makes a data block of the chunks that stand in their place and fill the first `used` bytes of
+/// the payload. The bytes behind them become zeros.
 pub fn seal_data(volid: Volid, number: u64, used: u32, into: &mut [u8])
     requires volume { 1 ≤ volid.0 }
     requires place { 1 ≤ number }
     requires fits { used ≤ 4040 }
     requires whole { length into.old ≡ 4096 }
     ensures text { into.new ≡ block_text 0x44 volid.0 number (take used (drop 56 into.old)) }
-    ensures holds { (chunks : List ChunkText) → FillPayload chunks used into.old → HoldsChunks into.new volid.0 number chunks }
-    ensures valid { (chunks : List ChunkText) → FillPayload chunks used into.old → ValidBlock into.new volid.0 number (Block.Data used) }
+    ensures holds { (chunks : List ChunkText) → FillPayload chunks used into.old
+        → HoldsChunks into.new volid.0 number chunks }
+    ensures valid { (chunks : List ChunkText) → FillPayload chunks used into.old
+        → ValidBlock into.new volid.0 number (Block.Data used) }
 {
     finish_block(DATA_KIND, volid.0, number, used, into);
 }

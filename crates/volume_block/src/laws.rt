@@ -5,18 +5,21 @@ ghost use Rattle.volume_block.specs.Chunks.{ChunkText, JoinFrom, joined};
 ghost use Rattle.volume_block.specs.Valid.{HoldsChunks, ValidBlock};
 ghost use Rattle.volume_block.specs.declared.block.Block.{Block};
 
-/// Bytes are a valid block of one volume and one number at most, and one block alone. So what was written
-/// is read with the same fields, and nowhere else.
+/// Bytes are a valid block of one volume and one number at most, and one block alone. So what was
+/// written is read with the same fields, and nowhere else.
 #[tactic(auto, using(crate::proofs::OneBlock::one_block))]
 pub fn one_block()
-    ensures { (bytes : List ℕ) (volid number volume place : ℕ) (block other : Block) → ValidBlock bytes volid number block
-        → ValidBlock bytes volume place other → (volid ≡ volume) × (number ≡ place) × (block ≡ other) }
+    ensures { (bytes : List ℕ) (volid number volume place : ℕ) (block other : Block)
+        → ValidBlock bytes volid number block
+        → ValidBlock bytes volume place other → (volid ≡ volume) × (number ≡ place)
+        × (block ≡ other) }
 {}
 
 /// A data block holds one list of chunks.
 #[tactic(auto, using(crate::proofs::OneBlock::one_list_of_chunks))]
 pub fn one_list_of_chunks()
-    ensures { (bytes : List ℕ) (volid number volume place : ℕ) (chunks others : List ChunkText) → HoldsChunks bytes volid number chunks
+    ensures { (bytes : List ℕ) (volid number volume place : ℕ) (chunks others : List ChunkText)
+        → HoldsChunks bytes volid number chunks
         → HoldsChunks bytes volume place others → chunks ≡ others }
 {}
 

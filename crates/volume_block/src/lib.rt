@@ -1,5 +1,5 @@
-//! The blocks of a volume: labels, marks and data blocks, each 4,096 bytes with a digest of its own.
-//! docs/formats.md has their bytes.
+//! The blocks of a volume: labels, marks and data blocks, each 4,096 bytes with a digest of its
+//! own. docs/formats.md has their bytes.
 #![tactic(auto)]
 
 mod block;

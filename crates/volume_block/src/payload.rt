@@ -1,6 +1,7 @@
 //! Reads the payloads of labels and marks.
 
-ghost use Rattle.std.specs.Prelude.{◌≡◌, ◌≤◌, ◌-◌, ◌++◌, ◌↔◌, ℕ, length, replicate, IsTrue, MatchOption};
+ghost use Rattle.std.specs.Prelude.{◌≡◌, ◌≤◌, ◌-◌, ◌++◌, ◌↔◌, ℕ, length, replicate, IsTrue};
+ghost use Rattle.std.specs.Prelude.{MatchOption};
 ghost use Rattle.volume_block.specs.Valid.{HasRanges};
 ghost use Rattle.volume_block.specs.Why.{IsCountIn, IsLabelIn, FitsPool};
 
@@ -12,7 +13,8 @@ use room_base::{Cart, MAX_MOMENT, Moment, Volid, name_text};
 
 /// How many data blocks a mark with this payload counts.
 pub(crate) fn mark_count(payload: &[u8]) -> Option<u32>
-    ensures { MatchOption result ((count : ℕ) → ¬ IsCountIn payload.now count) (IsCountIn payload.now) }
+    ensures { MatchOption result ((count : ℕ) → ¬ IsCountIn payload.now count)
+        (IsCountIn payload.now) }
 {
     if payload.len() != MARK_USED as usize {
         return None;
@@ -28,7 +30,8 @@ pub(crate) fn mark_count(payload: &[u8]) -> Option<u32>
 /// What a label of this volume with this payload says.
 pub(crate) fn label_in(volid: Volid, payload: &[u8]) -> Option<Label>
     requires { 1 ≤ volid.0 }
-    ensures { MatchOption result ((label : Label) → ¬ IsLabelIn volid.0 payload.now label) (IsLabelIn volid.0 payload.now) }
+    ensures { MatchOption result ((label : Label) → ¬ IsLabelIn volid.0 payload.now label)
+        (IsLabelIn volid.0 payload.now) }
 {
     let pool_place = LABEL_FIELDS_SIZE as usize;
     if payload.len() < pool_place {
@@ -53,7 +56,9 @@ pub(crate) fn label_in(volid: Volid, payload: &[u8]) -> Option<Label>
 
 // A pool's name with zeros behind it, where its length is the one that is told.
 fn padded_pool(pool_length: u8, name: &[u8]) -> Option<[u8; 64]>
-    ensures { MatchOption result (¬ FitsPool pool_length name.now) (λ pool. FitsPool pool_length name.now × (pool ≡ name.now ++ replicate (64 - pool_length) 0)) }
+    ensures { MatchOption result (¬ FitsPool pool_length name.now)
+        (λ pool. FitsPool pool_length name.now
+        × (pool ≡ name.now ++ replicate (64 - pool_length) 0)) }
 {
     if name.len() != usize::from(pool_length) || pool_length > 64 {
         return None;

@@ -180,8 +180,8 @@ fn chunks(rt: HostRuntime) {
     assert!(rt; bytes.is_some_and(|bytes| bytes.as_slice() == b"abc".as_slice()));
 }
 
-// What may be named where one bit of this byte of `abc`'s data block is another: `F` for `D` is another
-// kind that is allowed, and a length may be too large, or tell too few zeros, or too many.
+// What may be named where one bit of this byte of `abc`'s data block is another: `F` for `D` is
+// another kind that is allowed, and a length may be too large, or tell too few zeros, or too many.
 fn may_be_named(place: usize, bit: u8, why: Reason) -> bool {
     match place {
         0 if bit == 1 => why == Reason::Digest,

@@ -1,5 +1,6 @@
 -- What stands on a cartridge: its label, and its committed files.
-use Rattle.std.specs.Prelude.{◌≡◌, ◌≢◌, ◌⊎◌, ℕ, ◌+◌, ◌*◌, ◌≤◌, ◌<◌, List, [], ◌∷◌, length, take, drop, slice_index}
+use Rattle.std.specs.Prelude.{◌≡◌, ◌≢◌, ◌⊎◌, ℕ, ◌+◌, ◌*◌, ◌≤◌, ◌<◌, List, [], ◌∷◌, length, take}
+use Rattle.std.specs.Prelude.{drop, slice_index}
 use Rattle.volume_block.specs.Chunks.{ChunkText}
 use Rattle.volume_block.specs.Valid.{ValidBlock, HoldsChunks}
 use Rattle.volume_block.specs.declared.label.Label.{Label}
@@ -19,13 +20,16 @@ pub data DataPlace : Type 0 where
   Damaged : DataPlace
 
 abbrev pub IsDataPlace : List ℕ → ℕ → ℕ → DataPlace → Type 0
-IsDataPlace bytes volid number (Whole chunks) = HoldsChunks (block_at bytes number) volid number chunks
-IsDataPlace bytes volid number Damaged = (chunks : List ChunkText) → HoldsChunks (block_at bytes number) volid number chunks → ⊥
+IsDataPlace bytes volid number (Whole chunks) =
+    HoldsChunks (block_at bytes number) volid number chunks
+IsDataPlace bytes volid number Damaged =
+    (chunks : List ChunkText) → HoldsChunks (block_at bytes number) volid number chunks → ⊥
 
 -- data places one behind the other, numbered from `first`
 abbrev pub AreDataPlaces : List ℕ → ℕ → ℕ → List DataPlace → Type 0
 AreDataPlaces bytes volid first [] = Unit {0}
-AreDataPlaces bytes volid first (place ∷ places) = IsDataPlace bytes volid first place × AreDataPlaces bytes volid (first + 1) places
+AreDataPlaces bytes volid first (place ∷ places) =
+    IsDataPlace bytes volid first place × AreDataPlaces bytes volid (first + 1) places
 
 -- a committed file: where its mark stands, and its data places
 pub record CommittedFile : Type 0 where
@@ -45,8 +49,8 @@ EndsAt bytes volid mark (Stop place) = (place ≡ mark)
     ⊎ ((kind_byte_at bytes mark ≡ 0x46)
     × ((count : ℕ) → ValidBlock (block_at bytes mark) volid mark (kinds.Mark count) → ⊥)))
 
--- The files from this mark place on, and their end. Each has a valid open mark with the count of its data
--- places, and the next mark place is behind the last of these.
+-- The files from this mark place on, and their end. Each has a valid open mark with the count of
+-- its data places, and the next mark place is behind the last of these.
 abbrev pub FilesFrom : List ℕ → ℕ → ℕ → List CommittedFile → End → Type 0
 FilesFrom bytes volid mark [] end = EndsAt bytes volid mark end
 FilesFrom bytes volid mark (file ∷ files) end = (file.mark ≡ mark)
@@ -67,5 +71,7 @@ HasLabel bytes label = ValidBlock (block_at bytes 0) label.volid.0 0 (kinds.Labe
 
 abbrev pub Committed : List ℕ → Contents → Type 0
 Committed bytes Unlabelled = slice_index bytes 0 ≢ 0x4C
-Committed bytes BadLabel = (slice_index bytes 0 ≡ 0x4C) × ((label : Label) → HasLabel bytes label → ⊥)
-Committed bytes (Labelled label files end) = HasLabel bytes label × FilesFrom bytes label.volid.0 1 files end
+Committed bytes BadLabel =
+    (slice_index bytes 0 ≡ 0x4C) × ((label : Label) → HasLabel bytes label → ⊥)
+Committed bytes (Labelled label files end) =
+    HasLabel bytes label × FilesFrom bytes label.volid.0 1 files end

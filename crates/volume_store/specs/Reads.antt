@@ -1,5 +1,6 @@
 -- What is read of a cartridge: its label, its marks, its blocks.
-use Rattle.std.specs.Prelude.{◌≡◌, ◌≢◌, ◌⊎◌, ℕ, ◌+◌, ◌*◌, ◌≤◌, ◌<◌, List, ◌∷◌, ◌++◌, length, slice_index, Result, Ok, Err, Option, MatchOption}
+use Rattle.std.specs.Prelude.{◌≡◌, ◌≢◌, ◌⊎◌, ℕ, ◌+◌, ◌*◌, ◌≤◌, ◌<◌, List, ◌∷◌, ◌++◌, length}
+use Rattle.std.specs.Prelude.{slice_index, Result, Ok, Err, Option, MatchOption}
 use Rattle.room_disk.specs.Disk.{DiskView, Settled}
 use Rattle.volume_block.specs.Valid.{IsLabel, ValidBlock}
 use Rattle.volume_block.specs.Why.{Why, volid_in}
@@ -9,7 +10,8 @@ use Rattle.volume_block.specs.declared.block.Block.TheVariants as kinds
 use Rattle.volume_block.specs.declared.block.BadBlock.{BadBlock}
 use Rattle.volume_block.specs.declared.block.Reason.{Reason}
 use Rattle.volume_block.specs.declared.block.Reason.TheVariants as reasons
-use Rattle.volume_store.specs.Committed.{block_at, HasLabel, CommittedFile, End, Closed, Stop, FilesFrom, Unlabelled, BadLabel, Labelled, Committed}
+use Rattle.volume_store.specs.Committed.{block_at, HasLabel, CommittedFile, End, Closed, Stop}
+use Rattle.volume_store.specs.Committed.{FilesFrom, Unlabelled, BadLabel, Labelled, Committed}
 use Rattle.volume_store.specs.declared.label.Found.{Found}
 use Rattle.volume_store.specs.declared.label.Found.TheVariants as found
 use Rattle.volume_store.specs.declared.reading.ReadFault.{ReadFault}
@@ -26,10 +28,11 @@ use Rattle.volume_store.specs.declared.commit.Volume.{Volume}
 
 -- ---- a block
 
--- The bytes at a block's place are no valid block of this volume and number: the file ends inside it, or this
--- is the first part that is wrong.
+-- The bytes at a block's place are no valid block of this volume and number: the file ends inside
+-- it, or this is the first part that is wrong.
 pub record IsBad (block : List ℕ) (volid number : ℕ) (why : Reason) : Type 0 where
-  pub first_wrong : ((length block < 4096) × (why ≡ reasons.Length)) ⊎ ((length block ≡ 4096) × Why block volid number why)
+  pub first_wrong : ((length block < 4096) × (why ≡ reasons.Length))
+      ⊎ ((length block ≡ 4096) × Why block volid number why)
   pub invalid : (other : Block) → ¬ ValidBlock block volid number other
 
 -- what is found where a block of this volume and number is to stand
@@ -42,7 +45,6 @@ abbrev pub JudgesBlock : List ℕ → ℕ → ℕ → Result Block ReadFault →
 JudgesBlock block volid number (Ok read) = ValidBlock block volid number read
 JudgesBlock block volid number (Err (faults.Bad bad)) = IsBad block volid number bad.why
 JudgesBlock block volid number (Err faults.Failed) = Unit {0}
-
 
 -- of the bytes read, as far as there was room, each block is the one with its number of the file
 abbrev pub HoldsBlocks : List ℕ → ℕ → ℕ → List ℕ → Type 0
@@ -109,14 +111,16 @@ pub record IsFile (files : List CommittedFile) (number : ℕ) (place : FilePlace
 
 -- the place of the file with this number, where there is one
 abbrev pub IsWanted : List CommittedFile → ℕ → Option FilePlace → Type 0
-IsWanted files number place = MatchOption place ((number ≡ 0) ⊎ (length files < number)) (IsFile files number)
+IsWanted files number place =
+    MatchOption place ((number ≡ 0) ⊎ (length files < number)) (IsFile files number)
 
 -- A walk over the marks that has come to a mark place: the files before it, whatever comes behind.
 pub record HasWalked (bytes : List ℕ) (volid number : ℕ) (walk : MarkWalk) : Type 0 where
   pub files : List CommittedFile
   pub counted : walk.files ≡ length files
   pub wanted : IsWanted files number walk.wanted
-  pub onward : (rest : List CommittedFile) (end : End) → FilesFrom bytes volid walk.end rest end → FilesFrom bytes volid 1 (files ++ rest) end
+  pub onward : (rest : List CommittedFile) (end : End) → FilesFrom bytes volid walk.end rest end
+      → FilesFrom bytes volid 1 (files ++ rest) end
 
 -- where a walk over all marks ends: the files are those that are committed
 pub record WalksOver (bytes : List ℕ) (volid number : ℕ) (walk : MarkWalk) : Type 0 where
@@ -127,17 +131,18 @@ pub record WalksOver (bytes : List ℕ) (volid number : ℕ) (walk : MarkWalk) :
 
 -- the committed files end at a mark that is invalid or isn't there
 abbrev pub StopsAt : List ℕ → ℕ → ℕ → Type 0
-StopsAt bytes volid number = (files : List CommittedFile) × FilesFrom bytes volid 1 files (Stop number)
+StopsAt bytes volid number =
+    (files : List CommittedFile) × FilesFrom bytes volid 1 files (Stop number)
 
 abbrev pub Walks : List ℕ → ℕ → ℕ → Result MarkWalk WalkFault → Type 0
 Walks bytes volid number (Ok walk) = WalksOver bytes volid number walk
 Walks bytes volid number (Err (walks.BadMark place)) = StopsAt bytes volid place
 Walks bytes volid number (Err walks.Failed) = Unit {0}
 
-
 -- the numbers of a walk that has come to a mark place are in their ranges
 abbrev pub IsWithin : FilePlace → ℕ → Type 0
-IsWithin place end = (1 ≤ place.mark) × (1 ≤ place.count) × (place.count ≤ 64) × (place.mark + place.count < end)
+IsWithin place end =
+    (1 ≤ place.mark) × (1 ≤ place.count) × (place.count ≤ 64) × (place.mark + place.count < end)
 
 pub record HasRange (limit : ℕ) (walk : MarkWalk) : Type 0 where
   pub end : (1 ≤ walk.end) × (walk.end < limit)
@@ -148,12 +153,15 @@ pub record HasRange (limit : ℕ) (walk : MarkWalk) : Type 0 where
 
 -- what mounting finds on a cartridge
 abbrev pub Mounts : List ℕ → ℕ → Result Volume MountFault → Type 0
-Mounts bytes cart (Ok volume) = (volume.cart.0 ≡ cart) × ((files : List CommittedFile) × Committed bytes (Labelled volume.label files (Closed volume.mark)))
+Mounts bytes cart (Ok volume) =
+    (volume.cart.0 ≡ cart)
+    × ((files : List CommittedFile)
+    × Committed bytes (Labelled volume.label files (Closed volume.mark)))
 Mounts bytes cart (Err mounts.Unlabelled) = Committed bytes Unlabelled
 Mounts bytes cart (Err (mounts.BadBlock number)) = ((number ≡ 0) × Committed bytes BadLabel)
-    ⊎ ((label : Label) × ((files : List CommittedFile) × Committed bytes (Labelled label files (Stop number))))
+    ⊎ ((label : Label)
+    × ((files : List CommittedFile) × Committed bytes (Labelled label files (Stop number))))
 Mounts bytes cart (Err mounts.Failed) = Unit {0}
-
 
 -- nothing is pending on the file, but where the disk failed
 abbrev pub SettlesUnlessFailed : Result Volume MountFault → DiskView → ℕ → Type 0

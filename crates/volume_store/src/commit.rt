@@ -9,8 +9,8 @@ use room_base::{Cart, Failed};
 use room_disk::{Store, write_gated};
 use volume_block::{BLOCK_SIZE, Label};
 
-/// A volume that is mounted: its label, the cartridge that it is on, and its next mark place, which is
-/// the number of a block.
+/// A volume that is mounted: its label, the cartridge that it is on, and its next mark place, which
+/// is the number of a block.
 #[derive(Clone, Copy, Debug, PartialEq, Eq)]
 pub struct Volume {
     pub label: Label,
@@ -19,9 +19,9 @@ pub struct Volume {
 }
 
 impl Volume {
-    /// Makes the region the volume's next file; `count` is the number of its data blocks. A crash at any
-    /// moment leaves the old files, or these and the new one. After `Failed` either may stand on the
-    /// cartridge, so the volume is to be mounted again.
+    /// Makes the region the volume's next file; `count` is the number of its data blocks. A crash
+    /// at any moment leaves the old files, or these and the new one. After `Failed` either may
+    /// stand on the cartridge, so the volume is to be mounted again.
     pub fn commit<D: Store>(
         &mut self,
         store: &mut D,
@@ -36,7 +36,8 @@ impl Volume {
             (AddsFile self.old.label self.old.mark region.now)
             (MayAddFile self.old.label self.old.mark region.now)
             (D.view store.old) (D.view store.new) result }
-        ensures mark { OnOk result (self.new ≡ record self.old { mark = self.old.mark + count + 1 }) }
+        ensures mark { OnOk result
+            (self.new ≡ record self.old { mark = self.old.mark + count + 1 }) }
         ensures kept { OnErr result (self.new ≡ self.old) }
     {
         let file = self.cart.0 + 1;

@@ -4,7 +4,8 @@ ghost use Rattle.room_disk.specs.Disk.{Quiet, Settled, FileCause};
 ghost use Rattle.room_disk.specs.Writing.{WritesFile};
 ghost use Rattle.volume_block.specs.Valid.{IsLabel, label_text};
 ghost use Rattle.volume_block.specs.Region.{closed_block};
-ghost use Rattle.volume_store.specs.Writes.{cart_file, IsCart, Relabels, IsBeingLabelled, IsOpening};
+ghost use Rattle.volume_store.specs.Writes.{cart_file, IsCart, Relabels, IsBeingLabelled};
+ghost use Rattle.volume_store.specs.Writes.{IsOpening};
 ghost use Rattle.volume_store.specs.Reads.{FindsLabel, Finds, HasAllowedLabel};
 
 use crate::reading::read_front;
@@ -34,7 +35,8 @@ pub fn read_label<D: Store>(store: &mut D, cart: Cart) -> Result<Found, Failed>
     ensures cause { FileCause (cart_file cart.0) (D.view store.old) (D.view store.new) result }
     ensures tells { (D.view store.new).tells ≡ (D.view store.old).tells }
     ensures quiet { Told (D.view store.old).tells (Quiet (D.view store.old) (D.view store.new)) }
-    ensures settled { Told (D.view store.old).tells (OnOk result (Settled (D.view store.new) (cart_file cart.0))) }
+    ensures settled { Told (D.view store.old).tells
+        (OnOk result (Settled (D.view store.new) (cart_file cart.0))) }
     ensures allowed { IfOk result HasAllowedLabel }
     ensures found { Told (D.view store.old).tells
         (IfOk result (Finds ((D.view store.old).reads (cart_file cart.0)))) }
@@ -76,11 +78,13 @@ fn open_label_of(bytes: &[u8]) -> Found
     }
 }
 
-/// Writes a label on its cartridge, whose files are then gone. A crash at any moment leaves the cartridge
-/// as it was, without a label, or with the new label and no file; so it may be after `Failed`.
+/// Writes a label on its cartridge, whose files are then gone. A crash at any moment leaves the
+/// cartridge as it was, without a label, or with the new label and no file; so it may be after
+/// `Failed`.
 pub fn write_label<D: Store>(store: &mut D, label: &Label) -> Result<(), Failed>
     requires { IsLabel label.now }
-    ensures { WritesFile (cart_file label.now.cart.0) (Relabels label.now) (IsBeingLabelled label.now)
+    ensures { WritesFile (cart_file label.now.cart.0) (Relabels label.now)
+        (IsBeingLabelled label.now)
         (D.view store.old) (D.view store.new) result }
 {
     let file = label.cart.0 + 1;

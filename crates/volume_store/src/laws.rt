@@ -3,11 +3,12 @@
 ghost use Rattle.std.specs.Prelude.{◌≡◌, ℕ, List};
 ghost use Rattle.volume_store.specs.Committed.{Contents, Committed};
 
-/// The bytes of a cartridge have one meaning: the same bytes have no other label, files, data blocks or
-/// end. So what two calls find of the same bytes is the same.
+/// The bytes of a cartridge have one meaning: the same bytes have no other label, files, data
+/// blocks or end. So what two calls find of the same bytes is the same.
 #[tactic(auto, using(crate::proofs::OneContents::one_contents))]
 pub fn one_contents()
-    ensures { (bytes : List ℕ) (one other : Contents) → Committed bytes one → Committed bytes other → one ≡ other }
+    ensures { (bytes : List ℕ) (one other : Contents) → Committed bytes one → Committed bytes other
+        → one ≡ other }
 {}
 
 /// Each cartridge has a meaning, whatever its bytes are.

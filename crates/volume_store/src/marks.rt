@@ -1,12 +1,14 @@
 //! Goes over the marks of a cartridge, and mounts it.
 
-ghost use Rattle.std.specs.Prelude.{◌≡◌, ◌≢◌, ◌+◌, ◌*◌, ◌-◌, ◌≤◌, ◌<◌, ◌^◌, Some, None, Err, length, slice_index, IfOk};
+ghost use Rattle.std.specs.Prelude.{◌≡◌, ◌≢◌, ◌+◌, ◌*◌, ◌-◌, ◌≤◌, ◌<◌, ◌^◌, Some, None, Err};
+ghost use Rattle.std.specs.Prelude.{length, slice_index, IfOk};
 ghost use Rattle.room_base.specs.Outside.{Told};
 ghost use Rattle.room_disk.specs.Disk.{Quiet, FileCause, FaultCause};
 ghost use Rattle.volume_block.specs.Valid.{IsLabel};
 ghost use Rattle.volume_store.specs.Committed.{block_at};
 ghost use Rattle.volume_store.specs.Writes.{cart_file, IsCart};
-ghost use Rattle.volume_store.specs.Reads.{FindsMark, HasCount, Walks, HasRange, Mounts, SettlesUnlessFailed};
+ghost use Rattle.volume_store.specs.Reads.{FindsMark, HasCount, Walks, HasRange, Mounts};
+ghost use Rattle.volume_store.specs.Reads.{SettlesUnlessFailed};
 ghost use Rattle.volume_store.specs.declared.marks.MountFault.TheVariants as mounts;
 ghost use Rattle.volume_store.specs.declared.marks.WalkFault.TheVariants as walks;
 
@@ -94,19 +96,21 @@ pub(crate) const MARK_GATE: u8 = b'F';
 /// The first mark place of a volume, behind its label.
 pub const FIRST_MARK: u64 = 1;
 
-/// Mounts a cartridge: reads its label and each of its marks once, and none of its data blocks. It syncs
-/// the cartridge first, so that what it finds stays.
+/// Mounts a cartridge: reads its label and each of its marks once, and none of its data blocks. It
+/// syncs the cartridge first, so that what it finds stays.
 pub fn mount<D: Store>(store: &mut D, cart: Cart) -> Result<Volume, MountFault>
     requires { IsCart cart.0 }
     ensures cause { FaultCause (cart_file cart.0) (D.view store.old) (D.view store.new)
         (result ≡ Err mounts.Failed) }
     ensures tells { (D.view store.new).tells ≡ (D.view store.old).tells }
     ensures quiet { Told (D.view store.old).tells (Quiet (D.view store.old) (D.view store.new)) }
-    ensures settled { Told (D.view store.old).tells (SettlesUnlessFailed result (D.view store.new) (cart_file cart.0)) }
+    ensures settled { Told (D.view store.old).tells
+        (SettlesUnlessFailed result (D.view store.new) (cart_file cart.0)) }
     ensures cart { IfOk result (λ volume. volume.cart ≡ cart) }
     ensures label { IfOk result (λ volume. IsLabel volume.label) }
     ensures mark { IfOk result (λ volume. (1 ≤ volume.mark) × (volume.mark < 2 ^ 52)) }
-    ensures mounted { Told (D.view store.old).tells (Mounts ((D.view store.old).reads (cart_file cart.0)) cart.0 result) }
+    ensures mounted { Told (D.view store.old).tells
+        (Mounts ((D.view store.old).reads (cart_file cart.0)) cart.0 result) }
 {
     let label = match read_label(store, cart)? {
         Found::Blank | Found::Closed => return Err(MountFault::Unlabelled),
@@ -124,8 +128,9 @@ pub fn mount<D: Store>(store: &mut D, cart: Cart) -> Result<Volume, MountFault>
     }
 }
 
-/// Goes over the marks of a labelled cartridge, each of which it reads once, and looks for the file with
-/// this number, counted from 1; 0 asks for none. A mark that isn't valid, or isn't there, is `BadMark`.
+/// Goes over the marks of a labelled cartridge, each of which it reads once, and looks for the file
+/// with this number, counted from 1; 0 asks for none. A mark that isn't valid, or isn't there, is
+/// `BadMark`.
 pub fn walk_marks<D: Store>(
     store: &mut D,
     cart: Cart,
@@ -138,7 +143,8 @@ pub fn walk_marks<D: Store>(
     ensures tells { (D.view store.new).tells ≡ (D.view store.old).tells }
     ensures quiet { Told (D.view store.old).tells (Quiet (D.view store.old) (D.view store.new)) }
     ensures range { IfOk result (λ walk. HasRange (2 ^ 52) walk) }
-    ensures walked { Told (D.view store.old).tells (Walks ((D.view store.old).reads (cart_file cart.0)) volid.0 wanted result) }
+    ensures walked { Told (D.view store.old).tells
+        (Walks ((D.view store.old).reads (cart_file cart.0)) volid.0 wanted result) }
 {
     let file = cart.0 + 1;
     let blocks = block_count(store.len(file)?);
@@ -172,7 +178,8 @@ impl MarkWalk {
         requires count { count ≤ 64 }
         ensures files { result.files ≡ self.files + 1 }
         ensures end { result.end ≡ self.end + count + 1 }
-        ensures this { self.files + 1 ≡ wanted → result.wanted ≡ Some (record { mark = self.end; count = count }) }
+        ensures this { self.files + 1 ≡ wanted
+            → result.wanted ≡ Some (record { mark = self.end; count = count }) }
         ensures other { self.files + 1 ≢ wanted → result.wanted ≡ self.wanted }
     {
         let files = self.files + 1;

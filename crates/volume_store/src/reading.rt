@@ -19,8 +19,8 @@ use volume_block::{BLOCK_SIZE, BadBlock, Block, Reason, decode_block};
 pub enum ReadFault {
     /// The disk failed.
     Failed,
-    /// The block isn't a valid one of its volume and number, and which part of it is the first wrong one.
-    /// Where the file ends inside the block that is its length.
+    /// The block isn't a valid one of its volume and number, and which part of it is the first
+    /// wrong one. Where the file ends inside the block that is its length.
     Bad(BadBlock),
 }
 
@@ -35,8 +35,8 @@ impl From<Failed> for ReadFault {
     }
 }
 
-/// Reads the block with this number of this volume from a cartridge. `into` has the block's bytes after
-/// an `Ok`.
+/// Reads the block with this number of this volume from a cartridge. `into` has the block's bytes
+/// after an `Ok`.
 pub fn read_block<D: Store>(
     store: &mut D,
     cart: Cart,
@@ -54,7 +54,8 @@ pub fn read_block<D: Store>(
     ensures read { Told (D.view store.old).tells
         (OnOk result (into.new ≡ block_at ((D.view store.old).reads (cart_file cart.0)) number)) }
     ensures judged { Told (D.view store.old).tells
-        (JudgesBlock (block_at ((D.view store.old).reads (cart_file cart.0)) number) volid.0 number result) }
+        (JudgesBlock
+        (block_at ((D.view store.old).reads (cart_file cart.0)) number) volid.0 number result) }
 {
     let count = read_front(store, cart.0 + 1, number, into)?;
     match judge_block(&into[..count], volid, number) {
@@ -63,9 +64,9 @@ pub fn read_block<D: Store>(
     }
 }
 
-/// Reads the blocks of a cartridge from this number on, as many as there is room for, in one read of the
-/// disk. Answers how many bytes of them are there: fewer than there is room for where the file ends.
-/// `judge_block` judges each.
+/// Reads the blocks of a cartridge from this number on, as many as there is room for, in one read
+/// of the disk. Answers how many bytes of them are there: fewer than there is room for where the
+/// file ends. `judge_block` judges each.
 pub fn read_blocks<D: Store>(
     store: &mut D,
     cart: Cart,
@@ -78,14 +79,15 @@ pub fn read_blocks<D: Store>(
     ensures tells { (D.view store.new).tells ≡ (D.view store.old).tells }
     ensures quiet { Told (D.view store.old).tells (Quiet (D.view store.old) (D.view store.new)) }
     ensures read { Told (D.view store.old).tells (IfOk result (λ count.
-        HoldsBlocks ((D.view store.old).reads (cart_file cart.0)) first (length into.old) (take count into.new))) }
+        HoldsBlocks ((D.view store.old).reads (cart_file cart.0)) first (length into.old)
+        (take count into.new))) }
 {
     read_from(store, cart.0 + 1, first, into)
 }
 
 #[tactic(auto, using(crate::proofs::Finding::wrong_block))]
-/// Judges the bytes of the block with this number of this volume, of which some may be missing where the
-/// file ends inside it.
+/// Judges the bytes of the block with this number of this volume, of which some may be missing
+/// where the file ends inside it.
 pub fn judge_block(bytes: &[u8], volid: Volid, number: u64) -> Result<Block, BadBlock>
     requires { length bytes.now ≤ 4096 }
     ensures judged { IsJudged bytes.now volid.0 number result }
@@ -100,8 +102,8 @@ pub fn judge_block(bytes: &[u8], volid: Volid, number: u64) -> Result<Block, Bad
     decode_block(bytes, volid, number)
 }
 
-/// Reads a block, and answers how many of its bytes are there: fewer than all where the file ends inside
-/// it.
+/// Reads a block, and answers how many of its bytes are there: fewer than all where the file ends
+/// inside it.
 pub(crate) fn read_front<D: Store>(
     store: &mut D,
     file: u32,
