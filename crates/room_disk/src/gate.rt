@@ -51,12 +51,7 @@ pub fn cut_unsynced<D: Store>(store: &mut D, file: u32, to: u64) -> Result<(), F
 }
 
 /// Writes the bytes and syncs the file.
-pub fn write_synced<D: Store>(
-    store: &mut D,
-    file: u32,
-    at: u64,
-    bytes: &[u8],
-) -> Result<(), Failed>
+pub fn write_synced<D: Store>(store: &mut D, file: u32, at: u64, bytes: &[u8]) -> Result<(), Failed>
     // A crash leaves the write whole, torn or not begun.
     ensures { WritesFile file (Overlays at bytes.now) (Torn at bytes.now)
         (D.view store.old) (D.view store.new) result }
@@ -143,12 +138,7 @@ pub fn write_anew<D: Store>(
 }
 
 // Puts the parts in the place of all that stands from `at` on, and syncs the file.
-fn replace_end<D: Store>(
-    store: &mut D,
-    file: u32,
-    at: u64,
-    parts: &[&[u8]],
-) -> Result<(), Failed>
+fn replace_end<D: Store>(store: &mut D, file: u32, at: u64, parts: &[&[u8]]) -> Result<(), Failed>
     requires { Told (D.view store.old).tells (at ≤ length ((D.view store.old).reads file)) }
     ensures { WritesFile file (ReplacesEnd at (all_bytes parts.now)) (KeepsFront at)
         (D.view store.old) (D.view store.new) result }

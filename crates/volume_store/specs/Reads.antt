@@ -43,7 +43,6 @@ JudgesBlock block volid number (Ok read) = ValidBlock block volid number read
 JudgesBlock block volid number (Err (faults.Bad bad)) = IsBad block volid number bad.why
 JudgesBlock block volid number (Err faults.Failed) = Unit {0}
 
-
 -- of the bytes read, as far as there was room, each block is the one with its number of the file
 abbrev pub HoldsBlocks : List ℕ → ℕ → ℕ → List ℕ → Type 0
 HoldsBlocks bytes first room read =
@@ -134,7 +133,6 @@ Walks bytes volid number (Ok walk) = WalksOver bytes volid number walk
 Walks bytes volid number (Err (walks.BadMark place)) = StopsAt bytes volid place
 Walks bytes volid number (Err walks.Failed) = Unit {0}
 
-
 -- the numbers of a walk that has come to a mark place are in their ranges
 abbrev pub IsWithin : FilePlace → ℕ → Type 0
 IsWithin place end = (1 ≤ place.mark) × (1 ≤ place.count) × (place.count ≤ 64) × (place.mark + place.count < end)
@@ -153,7 +151,6 @@ Mounts bytes cart (Err mounts.Unlabelled) = Committed bytes Unlabelled
 Mounts bytes cart (Err (mounts.BadBlock number)) = ((number ≡ 0) × Committed bytes BadLabel)
     ⊎ ((label : Label) × ((files : List CommittedFile) × Committed bytes (Labelled label files (Stop number))))
 Mounts bytes cart (Err mounts.Failed) = Unit {0}
-
 
 -- nothing is pending on the file, but where the disk failed
 abbrev pub SettlesUnlessFailed : Result Volume MountFault → DiskView → ℕ → Type 0
