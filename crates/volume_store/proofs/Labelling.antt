@@ -1,7 +1,7 @@
 -- A label and the closed block behind it, as they are written.
-use Rattle.std.proofs.Common.{◌≡◌, ◌⊎◌, inl, inr, subst, ℕ, ◌+◌, ◌-◌, ◌<◌, List, [], ◌∷◌, ◌++◌, length, drop, replicate, get_or, refl, sym, ap, ◌∙◌, arith}
-use Rattle.std.proofs.lemmas.List.{append_assoc, length-append, drop-drop, ext_get_or}
-use Rattle.std.proofs.lemmas.Bool.{cases_eq, cases_lt}
+use Rattle.std.proofs.Common.{◌≡◌, ◌⊎◌, inl, inr, subst, ℕ, List, [], ◌∷◌, ◌++◌, length, drop, replicate, get_or, refl, sym, ap, ◌∙◌, arith}
+use Rattle.std.proofs.lemmas.List.{append_assoc, length-append, drop-drop}
+use Rattle.std.proofs.lemmas.Bool.{cases_eq}
 use Rattle.volume_block.specs.Layout.{block_text}
 use Rattle.volume_block.specs.Valid.{IsLabel, label_text}
 use Rattle.volume_block.specs.Region.{closed_block}

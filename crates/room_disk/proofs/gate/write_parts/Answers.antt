@@ -1,9 +1,7 @@
-use Rattle.std.proofs.Common.{◌≡◌, ◌+◌, ◌++◌, List, ℕ, [], length, take, get_or, ap, subst, sym, ◌∙◌, arith}
+use Rattle.std.proofs.Common.{◌≡◌, ◌+◌, ◌++◌, [], length, take, get_or, ap, arith}
 use Rattle.std.proofs.lemmas.List.{length-append}
 use Rattle.std.proofs.lemmas.Result.{err_from_is_err_and}
-use Rattle.room_base.specs.declared.fault.Failed.{Failed}
 use Rattle.room_disk.specs.Crash.{Overlays, KeepsFront, all_bytes}
-use Rattle.room_disk.specs.Writing.{ChangesFile}
 use Rattle.room_disk.proofs.Fronts.{all_bytes-more, one_more_part}
 use Rattle.room_disk.proofs.Writing.{changes_failed}
 use Rattle.room_disk.proofs.gate.write_parts.Goals as goal

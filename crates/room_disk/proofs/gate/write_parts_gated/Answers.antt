@@ -1,8 +1,7 @@
-use Rattle.std.proofs.Common.{[], ◌∷◌, ◌+◌, inl}
-use Rattle.std.proofs.lemmas.Result.{err_from_is_err_and}
+use Rattle.std.proofs.Common.{[], ◌∷◌, ◌+◌}
 use Rattle.room_disk.specs.Crash.{Overlays, KeepsFront, Torn, all_bytes}
 use Rattle.room_disk.specs.Writing.{Then, TornThen}
-use Rattle.room_disk.proofs.Writing.{writes_then, writes_weaker, writes_failed, writes_change, gated_whole}
+use Rattle.room_disk.proofs.Writing.{writes_then, writes_weaker, gated_whole}
 use Rattle.room_disk.proofs.Anew.{gated_parts_torn}
 use Rattle.room_disk.proofs.gate.write_parts_gated.Goals as goal
 

@@ -1,5 +1,5 @@
 use Rattle.std.proofs.Common.{◌≡◌, ◌∙◌, ◌∷◌, ℕ, List, sym, subst}
-use Rattle.room_disk.specs.Crash.{overlaid, Overlays, GatedTorn}
+use Rattle.room_disk.specs.Crash.{Overlays, GatedTorn}
 use Rattle.room_disk.proofs.Writing.{writes_weaker}
 use Rattle.volume_block.proofs.Lengths.{length-label_text}
 use Rattle.volume_store.proofs.Labelling.{opens_labelled, opening_torn, labelled_empty}
