@@ -34,16 +34,23 @@ item_at (Some head) entries bytes = rest_at (begins_end bytes) entries bytes
 abbrev pub with_item : Reading → ℕ → Item → Reading
 with_item reading read (Head head) = record reading { read = read; head = Some head; pending = [] }
 with_item reading read (Entry front) =
-    record reading { read = read; left = front.size; entries = reading.entries ++ entry_from read front ∷ []; pending = [] }
+    record reading {
+      read = read;
+      left = front.size;
+      entries = reading.entries ++ entry_from read front ∷ [];
+      pending = [];
+    }
 with_item reading read (End count) = record reading { read = read; ended = true; pending = [] }
 
 -- A reader that is to go on: the pending bytes aren't complete, and there are no entries too many.
 pub record IsWaiting (reading : Reading) : Type 0 where
-  pub waits : reading.ended ≡ false → item_at reading.head reading.entries reading.pending ≡ Err stops.More
+  pub waits : reading.ended ≡ false
+      → item_at reading.head reading.entries reading.pending ≡ Err stops.More
   pub bytes : AreBytes reading.pending
   pub count : length reading.entries ≤ max_entries
 
--- the item that begins bytes, which end at this byte of the stream, was taken, and so many bytes are behind it
+-- The item that begins bytes, which end at this byte of the stream, was taken. So many of the bytes are
+-- behind it.
 pub record TakesItem (old new : Reading) (end : ℕ) (bytes : List ℕ) (behind : ℕ) : Type 0 where
   pub item : Item
   pub rest : List ℕ
@@ -54,13 +61,15 @@ pub record TakesItem (old new : Reading) (end : ℕ) (bytes : List ℕ) (behind 
 -- a fault is the one that bytes have which end at this byte of the stream, unless memory ran out
 abbrev pub FaultsAt : StreamFault → ℕ → Part Item → Type 0
 FaultsAt faults.Memory end part = Unit {0}
-FaultsAt (faults.Bad offset) end part = (behind : ℕ) × (part ≡ Err (stops.Wrong behind)) × (offset ≡ end - behind)
+FaultsAt (faults.Bad offset) end part =
+    (behind : ℕ) × (part ≡ Err (stops.Wrong behind)) × (offset ≡ end - behind)
 FaultsAt (faults.TooMany limit) end part = (part ≡ Err stops.Full) × (limit ≡ max_entries)
 
 -- what taking the item at the front of bytes does; without an answer it isn't complete
 abbrev pub TakesNext : Reading → Reading → ℕ → List ℕ → Result (Option ℕ) StreamFault → Type 0
 TakesNext old new end bytes (Ok (Some behind)) = TakesItem old new end bytes behind
-TakesNext old new end bytes (Ok None) = (item_at old.head old.entries bytes ≡ Err stops.More) × (new ≡ old)
+TakesNext old new end bytes (Ok None) =
+    (item_at old.head old.entries bytes ≡ Err stops.More) × (new ≡ old)
 TakesNext old new end bytes (Err fault) = FaultsAt fault end (item_at old.head old.entries bytes)
 
 -- what it means that bytes which end at byte `end` weren't read to the end of an item

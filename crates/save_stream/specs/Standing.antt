@@ -42,7 +42,8 @@ pub record Stands (text : List ℕ) (reading : Reading) : Type 0 where
   pub read : reading.read ≡ length text
   pub at : StandsAt reading.head text reading
 
--- a text may be the front of a stream: each of its complete fields is one that the grammar allows in its place
+-- a text may be the front of a stream: each of its complete fields is one that the grammar allows in
+-- its place
 abbrev pub IsAllowed : List ℕ → Type 0
 IsAllowed text = (reading : Reading) × (reads start text ≡ Ok reading)
 
@@ -55,7 +56,8 @@ AreBytes bytes = (i : ℕ) → slice_index bytes i < 256
 -- they don't complete the end, or an entry
 abbrev pub WaitsIf : Bool → List IndexEntry → List ℕ → Type 0
 WaitsIf true entries pending = end_at (length entries) pending ≡ Err stops.More
-WaitsIf false entries pending = front_at (length entries) (last_path entries) pending ≡ Err stops.More
+WaitsIf false entries pending =
+    front_at (length entries) (last_path entries) pending ≡ Err stops.More
 
 abbrev pub Waits : List IndexEntry → List ℕ → Type 0
 Waits entries pending = WaitsIf (begins_end pending) entries pending

@@ -19,7 +19,8 @@ idle_reading progress = record {
 }
 
 abbrev pub reading_of : State → Reading
-reading_of state = record (idle_reading state.progress) { pending = drop state.done state.pending.items }
+reading_of state =
+    record (idle_reading state.progress) { pending = drop state.done state.pending.items }
 
 -- what was read stays, and more may have come
 pub record KeepsProgress (old new : Progress) : Type 0 where

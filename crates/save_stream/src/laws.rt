@@ -1,6 +1,6 @@
 //! Laws of streams: each function has an empty body, and its contract is the law.
 
-ghost use Rattle.std.specs.Prelude.{◌≡◌, ◌↔◌, ◌≤◌, ◌⊎◌, ℕ, ◌+◌, ◌++◌, ◌∷◌, List, length, Result, Ok, Err, true};
+ghost use Rattle.std.specs.Prelude.{◌≡◌, ◌↔◌, ◌≤◌, ◌⊎◌, ℕ, ◌+◌, ◌++◌, ◌∷◌, List, length, None, Result, Ok, Err, true};
 ghost use Rattle.std.specs.List.{flat_map};
 ghost use Rattle.save_stream.specs.declared.head.SetHead.{SetHead};
 ghost use Rattle.save_stream.specs.declared.fault.StreamFault.{StreamFault};
@@ -9,7 +9,7 @@ ghost use Rattle.save_stream.specs.BadField.{HasBadField, HasEntryTooMany};
 ghost use Rattle.save_stream.specs.declared.entry.IndexEntry.{IndexEntry};
 ghost use Rattle.save_stream.specs.declared.fault.HeadFault.{HeadFault};
 ghost use Rattle.save_stream.specs.declared.fault.HeadFault.TheVariants as head_faults;
-ghost use Rattle.save_stream.specs.Heads.{ReadsHead};
+ghost use Rattle.save_stream.specs.Heads.{EndsInHead, HasBadHead, ReadsHead};
 ghost use Rattle.save_stream.specs.Fields.{Fields, StreamFields, StreamIndex, fields_read, fields_of, HasRead};
 ghost use Rattle.save_stream.specs.Spelling.{IsHead, IsStream, Saved, PathsAscend, StreamText, max_entries, max_size, head_text, entry_text, index_of, index_from, index_entry, stream_text, file_bytes};
 ghost use Rattle.save_stream.specs.Reading.{Reading, at_end, behind_head, start, reads, reads_all};
@@ -51,10 +51,11 @@ pub fn what_is_read_is_spelled()
         → reads (behind_head (length (head_text head)) head) body ≡ Ok reading → Stands (head_text head ++ body) reading }
 {}
 
-/// A text is allowed as far as it goes, or has a first field that isn't, or one entry too many. What is
-/// allowed is read, and so is each front of it, also of a whole stream.
+/// A text is allowed as far as it goes, or has a first field that isn't, or one entry too many. What
+/// is allowed is read, and so is each front of it, also of a whole stream.
 pub fn texts_are_allowed_or_bad()
-    ensures each { (text : List ℕ) → IsAllowed text ⊎ ((offset : ℕ) × (HasBadField text offset ⊎ HasEntryTooMany text offset)) }
+    ensures each { (text : List ℕ)
+        → IsAllowed text ⊎ ((offset : ℕ) × (HasBadField text offset ⊎ HasEntryTooMany text offset)) }
     ensures bad { (text : List ℕ) (offset : ℕ) → HasBadField text offset → ¬ (IsAllowed text) }
     ensures many { (text : List ℕ) (offset : ℕ) → HasEntryTooMany text offset → ¬ (IsAllowed text) }
     ensures front { (text more : List ℕ) → IsAllowed (text ++ more) → IsAllowed text }
@@ -65,13 +66,19 @@ pub fn texts_are_allowed_or_bad()
 
 /// The paths of what is read so far ascend.
 pub fn paths_that_are_read_ascend()
-    ensures { (text : List ℕ) (reading : Reading) → Stands text reading → PathsAscend reading.entries }
+    ensures { (text : List ℕ) (reading : Reading) → Stands text reading
+        → PathsAscend reading.entries }
 {}
 
 /// Where bytes begin with the text of a head, nothing but that head is read, unless memory runs out.
+/// What else is answered is what the reader of a stream finds in them.
 pub fn heads_are_read()
-    ensures { (head : SetHead) (rest : List ℕ) (answer : Result (SetHead × List ℕ) HeadFault) → IsHead head
-        → ReadsHead (λ x. x.0) (λ x. x.1) (head_text head ++ rest) answer → (answer ≡ Ok (head, rest)) ⊎ (answer ≡ Err head_faults.Memory) }
+    ensures alone { (head : SetHead) (rest : List ℕ) (answer : Result (SetHead × List ℕ) HeadFault)
+        → IsHead head → ReadsHead (λ x. x.0) (λ x. x.1) (head_text head ++ rest) answer
+        → (answer ≡ Ok (head, rest)) ⊎ (answer ≡ Err head_faults.Memory) }
+    ensures incomplete { (bytes : List ℕ) → AreBytes bytes → EndsInHead bytes
+        → (reading : Reading) × (reads start bytes ≡ Ok reading) × (reading.head ≡ None) }
+    ensures bad { (bytes : List ℕ) (offset : ℕ) → HasBadHead bytes offset → HasBadField bytes offset }
 {}
 
 /// What is read to an end is a whole stream.
@@ -106,5 +113,6 @@ pub fn ends_have_the_fields()
 /// and `TooMany` exactly where one more entry begins than there may be.
 pub fn faults_have_their_causes()
     ensures bad { (stream : List ℕ) (offset : ℕ) → (reads start stream ≡ Err (Bad offset)) ↔ HasBadField stream offset }
-    ensures many { (stream : List ℕ) (limit : ℕ) → (reads start stream ≡ Err (TooMany limit)) ↔ ((limit ≡ max_entries) × ((offset : ℕ) × HasEntryTooMany stream offset)) }
+    ensures many { (stream : List ℕ) (limit : ℕ) → (reads start stream ≡ Err (TooMany limit))
+        ↔ ((limit ≡ max_entries) × ((offset : ℕ) × HasEntryTooMany stream offset)) }
 {}

@@ -26,15 +26,16 @@ pub(crate) struct Progress {
 }
 
 impl Progress {
-    /// Takes the item that begins these bytes, which end at byte `end` of the stream, and answers how
-    /// many of them are behind it; `None`, where it isn't complete.
+    /// Takes the item that begins these bytes, which end at byte `end` of the stream, and answers
+    /// how many of them are behind it; `None`, where it isn't complete.
     pub(crate) fn take_item(
         &mut self,
         alloc: Global,
         bytes: &[u8],
         end: u64,
     ) -> Result<Option<usize>, StreamFault>
-        ensures read { TakesNext (idle_reading self.old) (idle_reading self.new) end bytes.now result }
+        ensures read { let old = idle_reading self.old in
+            TakesNext old (idle_reading self.new) end bytes.now result }
         ensures kept { KeepsProgress self.old self.new }
     {
         if self.head.is_none() {
@@ -53,7 +54,8 @@ impl Progress {
         end: u64,
     ) -> Result<Option<usize>, StreamFault>
         requires { self.old.head ≡ None }
-        ensures read { TakesNext (idle_reading self.old) (idle_reading self.new) end bytes.now result }
+        ensures read { let old = idle_reading self.old in
+            TakesNext old (idle_reading self.new) end bytes.now result }
         ensures kept { KeepsProgress self.old self.new }
     {
         match head_of(alloc, bytes) {
@@ -69,7 +71,8 @@ impl Progress {
     fn take_end(&mut self, bytes: &[u8], end: u64) -> Result<Option<usize>, StreamFault>
         requires some { IsSome self.old.head }
         requires begins { begins_end bytes.now ≡ true }
-        ensures read { TakesNext (idle_reading self.old) (idle_reading self.new) end bytes.now result }
+        ensures read { let old = idle_reading self.old in
+            TakesNext old (idle_reading self.new) end bytes.now result }
         ensures kept { KeepsProgress self.old self.new }
     {
         match end_of(self.entries.len(), bytes) {
@@ -90,7 +93,8 @@ impl Progress {
     ) -> Result<Option<usize>, StreamFault>
         requires some { IsSome self.old.head }
         requires begins { begins_end bytes.now ≡ false }
-        ensures read { TakesNext (idle_reading self.old) (idle_reading self.new) end bytes.now result }
+        ensures read { let old = idle_reading self.old in
+            TakesNext old (idle_reading self.new) end bytes.now result }
         ensures kept { KeepsProgress self.old self.new }
     {
         let last = last_path(&self.entries);
@@ -145,8 +149,8 @@ fn entry_from(alloc: Global, read: u64, front: &EntryFront) -> Result<IndexEntry
     })
 }
 
-// What it means that bytes which end at byte `end` weren't read to the end of an item. A field that isn't
-// allowed begins among these bytes, so the difference is never cut off at 0.
+// What it means that bytes which end at byte `end` weren't read to the end of an item. A field that
+// isn't allowed begins among these bytes, so the difference is never cut off at 0.
 fn stopped(stop: Stop, end: u64) -> Result<Option<usize>, StreamFault>
     ensures { Stopped stop end result }
 {

@@ -9,12 +9,12 @@ use crate::StreamFault;
 use crate::progress::Progress;
 use std::alloc::Global;
 
-/// The most bytes of a head, an entry up to those of its file, or an end: an entry of a file with the
-/// longest path.
+/// The most bytes of a head, an entry up to those of its file, or an end: an entry of a file with
+/// the longest path.
 const MAX_ITEM: usize = 1043;
 
-/// The most bytes that are pending while a piece is taken: an item that was begun before it, and one that
-/// is cut off behind it.
+/// The most bytes that are pending while a piece is taken: an item that was begun before it, and one
+/// that is cut off behind it.
 pub(crate) const MAX_PENDING: usize = 2 * MAX_ITEM;
 
 /// What is read of a stream, with the bytes of an item that isn't complete.
@@ -27,7 +27,7 @@ pub(crate) struct State {
 }
 
 /// What has to be known of a state before a piece, to go back to it.
-#[derive(Clone, Copy, Debug)]
+#[derive(Clone, Copy)]
 pub(crate) struct Savepoint {
     read: u64,
     left: u64,
@@ -57,7 +57,8 @@ impl State {
 
     /// Goes back to what the state was, when a part of a piece was taken since.
     pub(crate) fn go_back(&mut self, savepoint: Savepoint)
-        ensures { (old : State) → IsSavepoint savepoint old → Keeps old self.old → reading_of self.new ≡ reading_of old }
+        ensures { (old : State) → IsSavepoint savepoint old → Keeps old self.old
+            → reading_of self.new ≡ reading_of old }
     {
         self.progress.read = savepoint.read;
         self.progress.left = savepoint.left;
