@@ -1,19 +1,23 @@
 -- Heads at the front of bytes.
-use Rattle.std.proofs.Common.{◌≡◌, ℕ, ◌-◌, ◌≤◌, List, ◌++◌, length, Result, Ok, Err, refl, sym, ap, subst, ◌∙◌, arith, inl, inr}
+use Rattle.std.proofs.Common.{◌≡◌, ℕ, ◌+◌, ◌-◌, ◌≤◌, List, [], ◌++◌, length, None, Result, Ok, Err, refl, sym, ap, subst, ◌∙◌, arith, inl, inr}
 use Rattle.std.specs.Prelude.{◌⊎◌}
 use Rattle.std.proofs.lemmas.List.{length-append, append_cancel_left}
 use Rattle.save_stream.specs.declared.fault.HeadFault.{HeadFault}
 use Rattle.save_stream.specs.declared.fault.HeadFault.TheVariants as faults
 use Rattle.save_stream.specs.declared.head.SetHead.{SetHead}
 use Rattle.save_stream.specs.declared.stop.Stop.TheVariants as stops
-use Rattle.save_stream.specs.BadField.{head_fields, no_field}
-use Rattle.save_stream.specs.Heads.{HasBadHead, BeginsWith, ReadsHead}
-use Rattle.save_stream.specs.Reading.{Part, head_at}
+use Rattle.save_stream.specs.BadField.{head_fields, no_field, HasBadField}
+use Rattle.save_stream.specs.Heads.{BeginsWith, EndsInHead, HasBadHead, ReadsHead}
+use Rattle.save_stream.specs.Items.{Head, as_item, item_at}
+use Rattle.save_stream.specs.Reading.{Part, Reading, start, reads, head_at}
 use Rattle.save_stream.specs.Spelling.{IsHead, head_text}
 use Rattle.save_stream.proofs.Again.{head-again}
 use Rattle.save_stream.proofs.Fields.{one-head}
 use Rattle.save_stream.proofs.Judged.{Follows, head-follows}
+use Rattle.save_stream.proofs.Items.{ReadsOn, reads-at-once}
+use Rattle.save_stream.proofs.Onward.{item-waits}
 use Rattle.save_stream.proofs.Sound.{IsBytes, FollowsReading, When, head-takes}
+use Rattle.save_stream.proofs.Steps.{IsBytes-none}
 use Rattle.save_stream.proofs.Stopping.{head-leads, leads-nowhere}
 
 pub head-begins : (bytes : List ℕ) (head : SetHead) (rest : List ℕ) → IsBytes bytes → head_at bytes ≡ Ok (head, rest) → BeginsWith bytes head rest
@@ -73,3 +77,24 @@ head-exact head rest (Err (faults.Bad offset)) allowed reads =
     let stops = leads-nowhere (head_at (reads.before ++ tail)) tail reads.bad (head-leads reads.before reads.bad reads.rest reads.first_bad) in
     absurd (found-not-wrong head rest (length tail) (sym (head-again head rest allowed) ∙ ap head_at reads.parts ∙ stops))
 head-exact head rest (Err faults.Memory) allowed reads = inr refl
+
+-- what is read of bytes that end inside a head
+pub incomplete-head : (bytes : List ℕ) → IsBytes bytes → EndsInHead bytes → (reading : Reading) × (reads start bytes ≡ Ok reading) × (reading.head ≡ None)
+incomplete-head bytes fit ends =
+    let waits : item_at None [] bytes ≡ Err stops.More = ap (as_item Head) ends in
+    let on = subst (ReadsOn start bytes) waits (reads-at-once bytes start refl refl (omega arith) IsBytes-none fit (item-waits None [])) in
+    (record start { read = 0 + length bytes; pending = [] ++ bytes }, on, refl)
+
+pub bad-head-field : (bytes : List ℕ) (offset : ℕ) → HasBadHead bytes offset → HasBadField bytes offset
+bad-head-field bytes offset has = record {
+  whole = [];
+  reading = start;
+  before = has.before;
+  bad = has.bad;
+  rest = has.rest;
+  parts = has.parts;
+  offset_is = omega (arith, has.offset_is);
+  read = refl;
+  idle = (refl, refl);
+  first_bad = has.first_bad;
+}

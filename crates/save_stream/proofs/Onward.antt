@@ -22,7 +22,7 @@ IsBytes-append (byte ∷ one) other first second (suc i) = IsBytes-append one ot
 
 -- ---- behind an item
 
-item-waits : (head : Option SetHead) (entries : List IndexEntry) → item_at head entries [] ≡ Err stops.More
+pub item-waits : (head : Option SetHead) (entries : List IndexEntry) → item_at head entries [] ≡ Err stops.More
 unfolding head_at numbers_at given_byte_at front_at kind_at
 item-waits None entries = refl
 item-waits (Some head) entries = refl

@@ -92,7 +92,8 @@ Begins (Some kind) kind_byte = Unit {0}
 
 unfoldable pub item_fields : ℕ → List ℕ → FieldRules
 item_fields count last =
-    byte (λ kind_byte. Begins (kind_of kind_byte) kind_byte)
+    byte
+    (λ kind_byte. Begins (kind_of kind_byte) kind_byte)
     (λ kind_byte. fields_behind count last (kind_of kind_byte))
 
 -- ---- the stream

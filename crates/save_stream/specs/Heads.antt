@@ -43,8 +43,8 @@ pub record BeginsWith (bytes : List ℕ) (head : SetHead) (rest : List ℕ) : Ty
   pub parts : bytes ≡ head_text head ++ rest
 
 -- what the reading of a head at the front of bytes answers: the head and the rest of the bytes
-abbrev pub ReadsHead : {X : Type 0} → (X → SetHead) → (X → List ℕ) → List ℕ → Result X HeadFault
-    → Type 0
+abbrev pub ReadsHead : {X : Type 0} → (X → SetHead) → (X → List ℕ) → List ℕ
+    → Result X HeadFault → Type 0
 ReadsHead head rest bytes (Ok x) = BeginsWith bytes (head x) (rest x)
 ReadsHead head rest bytes (Err faults.Incomplete) = EndsInHead bytes
 ReadsHead head rest bytes (Err (faults.Bad offset)) = HasBadHead bytes offset

@@ -51,8 +51,8 @@ pub record IsWaiting (reading : Reading) : Type 0 where
   pub bytes : AreBytes reading.pending
   pub count : length reading.entries ≤ max_entries
 
--- the item that begins bytes, which end at this byte of the stream, was taken, and so many bytes
--- are behind it
+-- The item that begins bytes, which end at this byte of the stream, was taken. So many of the bytes
+-- are behind it.
 pub record TakesItem (old new : Reading) (end : ℕ) (bytes : List ℕ) (behind : ℕ) : Type 0 where
   pub item : Item
   pub rest : List ℕ

@@ -31,8 +31,8 @@ pub fn encode_head(alloc: Global, head: &SetHead) -> Result<Vec<u8>, Memory>
 /// taken.
 pub fn encode_head_into(parts: &HeadParts, into: &mut Vec<u8>)
     requires allowed { IsHead (head_of_parts parts.now) }
-    requires room { vec_len into.old + length
-        (head_text (head_of_parts parts.now)) ≤ vec_capacity into.old }
+    requires room { let text = head_text (head_of_parts parts.now) in
+        vec_len into.old + length text ≤ vec_capacity into.old }
     ensures items { into.new.items ≡ into.old.items ++ head_text (head_of_parts parts.now) }
     ensures capacity { vec_capacity into.new ≡ vec_capacity into.old }
 {

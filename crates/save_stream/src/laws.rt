@@ -1,7 +1,7 @@
 //! Laws of streams: each function has an empty body, and its contract is the law.
 
-ghost use Rattle.std.specs.Prelude.{◌≡◌, ◌↔◌, ◌≤◌, ◌⊎◌, ℕ, ◌+◌, ◌++◌, ◌∷◌, List, length, Result};
-ghost use Rattle.std.specs.Prelude.{Ok, Err, true};
+ghost use Rattle.std.specs.Prelude.{◌≡◌, ◌↔◌, ◌≤◌, ◌⊎◌, ℕ, ◌+◌, ◌++◌, ◌∷◌, List, length, None};
+ghost use Rattle.std.specs.Prelude.{Result, Ok, Err, true};
 ghost use Rattle.std.specs.List.{flat_map};
 ghost use Rattle.save_stream.specs.declared.head.SetHead.{SetHead};
 ghost use Rattle.save_stream.specs.declared.fault.StreamFault.{StreamFault};
@@ -10,7 +10,7 @@ ghost use Rattle.save_stream.specs.BadField.{HasBadField, HasEntryTooMany};
 ghost use Rattle.save_stream.specs.declared.entry.IndexEntry.{IndexEntry};
 ghost use Rattle.save_stream.specs.declared.fault.HeadFault.{HeadFault};
 ghost use Rattle.save_stream.specs.declared.fault.HeadFault.TheVariants as head_faults;
-ghost use Rattle.save_stream.specs.Heads.{ReadsHead};
+ghost use Rattle.save_stream.specs.Heads.{EndsInHead, HasBadHead, ReadsHead};
 ghost use Rattle.save_stream.specs.Fields.{Fields, StreamFields, StreamIndex, fields_read};
 ghost use Rattle.save_stream.specs.Fields.{fields_of, HasRead};
 ghost use Rattle.save_stream.specs.Spelling.{IsHead, IsStream, Saved, PathsAscend, StreamText};
@@ -89,12 +89,15 @@ pub fn paths_that_are_read_ascend()
 {}
 
 /// Where bytes begin with the text of a head, nothing but that head is read, unless memory runs
-/// out.
+/// out. What else is answered is what the reader of a stream finds in them.
 pub fn heads_are_read()
-    ensures { (head : SetHead) (rest : List ℕ) (answer : Result (SetHead × List ℕ) HeadFault)
-        → IsHead head
-        → ReadsHead (λ x. x.0) (λ x. x.1) (head_text head ++ rest) answer
+    ensures alone { (head : SetHead) (rest : List ℕ) (answer : Result (SetHead × List ℕ) HeadFault)
+        → IsHead head → ReadsHead (λ x. x.0) (λ x. x.1) (head_text head ++ rest) answer
         → (answer ≡ Ok (head, rest)) ⊎ (answer ≡ Err head_faults.Memory) }
+    ensures incomplete { (bytes : List ℕ) → AreBytes bytes → EndsInHead bytes
+        → (reading : Reading) × (reads start bytes ≡ Ok reading) × (reading.head ≡ None) }
+    ensures bad { (bytes : List ℕ) (offset : ℕ) → HasBadHead bytes offset
+        → HasBadField bytes offset }
 {}
 
 /// What is read to an end is a whole stream.
@@ -137,7 +140,6 @@ pub fn ends_have_the_fields()
 pub fn faults_have_their_causes()
     ensures bad { (stream : List ℕ) (offset : ℕ)
         → (reads start stream ≡ Err (Bad offset)) ↔ HasBadField stream offset }
-    ensures many { (stream : List ℕ) (limit : ℕ)
-        → (reads start stream ≡ Err (TooMany limit))
+    ensures many { (stream : List ℕ) (limit : ℕ) → (reads start stream ≡ Err (TooMany limit))
         ↔ ((limit ≡ max_entries) × ((offset : ℕ) × HasEntryTooMany stream offset)) }
 {}

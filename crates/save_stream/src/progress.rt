@@ -34,8 +34,8 @@ impl Progress {
         bytes: &[u8],
         end: u64,
     ) -> Result<Option<usize>, StreamFault>
-        ensures read { TakesNext (idle_reading self.old)
-            (idle_reading self.new) end bytes.now result }
+        ensures read { let old = idle_reading self.old in
+            TakesNext old (idle_reading self.new) end bytes.now result }
         ensures kept { KeepsProgress self.old self.new }
     {
         if self.head.is_none() {
@@ -54,8 +54,8 @@ impl Progress {
         end: u64,
     ) -> Result<Option<usize>, StreamFault>
         requires { self.old.head ≡ None }
-        ensures read { TakesNext (idle_reading self.old)
-            (idle_reading self.new) end bytes.now result }
+        ensures read { let old = idle_reading self.old in
+            TakesNext old (idle_reading self.new) end bytes.now result }
         ensures kept { KeepsProgress self.old self.new }
     {
         match head_of(alloc, bytes) {
@@ -71,8 +71,8 @@ impl Progress {
     fn take_end(&mut self, bytes: &[u8], end: u64) -> Result<Option<usize>, StreamFault>
         requires some { IsSome self.old.head }
         requires begins { begins_end bytes.now ≡ true }
-        ensures read { TakesNext (idle_reading self.old)
-            (idle_reading self.new) end bytes.now result }
+        ensures read { let old = idle_reading self.old in
+            TakesNext old (idle_reading self.new) end bytes.now result }
         ensures kept { KeepsProgress self.old self.new }
     {
         match end_of(self.entries.len(), bytes) {
@@ -93,8 +93,8 @@ impl Progress {
     ) -> Result<Option<usize>, StreamFault>
         requires some { IsSome self.old.head }
         requires begins { begins_end bytes.now ≡ false }
-        ensures read { TakesNext (idle_reading self.old)
-            (idle_reading self.new) end bytes.now result }
+        ensures read { let old = idle_reading self.old in
+            TakesNext old (idle_reading self.new) end bytes.now result }
         ensures kept { KeepsProgress self.old self.new }
     {
         let last = last_path(&self.entries);

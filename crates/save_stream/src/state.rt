@@ -27,7 +27,7 @@ pub(crate) struct State {
 }
 
 /// What has to be known of a state before a piece, to go back to it.
-#[derive(Clone, Copy, Debug)]
+#[derive(Clone, Copy)]
 pub(crate) struct Savepoint {
     read: u64,
     left: u64,
