@@ -9,9 +9,11 @@ abbrev pub IsOneOf : ℕ → ℕ → ℕ → Type 0
 IsOneOf first second file = (file ≡ first) ⊎ (file ≡ second)
 
 -- no count falls, and a fault is answered only where the count of one of the files rose
-pub record FailsOn {T E : Type 0} (first second : ℕ) (old new : DiskView) (answer : Result T E) : Type 0 where
+pub record FailsOn {T E : Type 0} (first second : ℕ)
+    (old new : DiskView) (answer : Result T E) : Type 0 where
   pub later : (other : ℕ) → old.faults other ≤ new.faults other
-  pub cause : OnErr answer (Rose (old.faults first) (new.faults first) ⊎ Rose (old.faults second) (new.faults second))
+  pub cause : OnErr answer
+      (Rose (old.faults first) (new.faults first) ⊎ Rose (old.faults second) (new.faults second))
 
 -- both files have the bytes at their front, and nothing is pending on them
 pub record AreBothWritten (first second : ℕ) (bytes : List ℕ) (old new : DiskView) : Type 0 where

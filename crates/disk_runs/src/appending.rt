@@ -11,7 +11,8 @@ use room_disk::{Store, write_synced};
 pub fn append_each<D: Store>(store: &mut D, file: u32, bytes: &[u8]) -> Result<(), Failed>
     ensures cause { FileCause file (D.view store.old) (D.view store.new) result }
     ensures tells { (D.view store.new).tells ≡ (D.view store.old).tells }
-    ensures others { Told (D.view store.old).tells (Others file (D.view store.old) (D.view store.new)) }
+    ensures others { Told (D.view store.old).tells
+        (Others file (D.view store.old) (D.view store.new)) }
     ensures whole { Told (D.view store.old).tells ((D.view store.old).reads file ≡ []
         → OnOk result ((D.view store.new).reads file ≡ bytes.now)) }
     ensures settled { Told (D.view store.old).tells (Settled (D.view store.old) file

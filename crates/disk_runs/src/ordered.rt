@@ -22,7 +22,8 @@ pub fn write_in_order<D: Store>(
     ensures written { Told (D.view store.old).tells (OnOk result
         (AreBothWritten first second bytes.now (D.view store.old) (D.view store.new))) }
     ensures left { Told (D.view store.old).tells
-        (Leaves (D.view store.old) (D.view store.new) (OthersLeft (IsOneOf first second) (D.view store.old))) }
+        (Leaves (D.view store.old) (D.view store.new)
+        (OthersLeft (IsOneOf first second) (D.view store.old))) }
     ensures moments { Told (D.view store.old).tells (Settled (D.view store.old) first
         → Settled (D.view store.old) second
         → Leaves (D.view store.old) (D.view store.new)

@@ -53,13 +53,14 @@ abbrev pub GatedTorn : ℕ → ℕ → List ℕ → List ℕ → List ℕ → Ty
 GatedTorn at letter rest old new =
     Torn (at + 1) rest old new ⊎ Torn at (letter ∷ []) (overlaid (at + 1) rest old) new
 
--- What stands before a place is as it was: the file may have been cut there, and written from there on.
+-- What stands before a place is as it was: the file may have been cut there, and written from there
+-- on.
 pub record KeepsFront (place : ℕ) (old new : List ℕ) : Type 0 where
   pub before : (at : ℕ) → at < place → at < length old → slice_index new at ≡ slice_index old at
   pub no_shorter : min place (length old) ≤ length new
 
--- the same of several parts: they are torn, with the gate and what stands before it as they were, or they
--- are whole and the gate is torn
+-- the same of several parts: they are torn, with the gate and what stands before it as they were, or
+-- they are whole and the gate is torn
 abbrev pub GatedPartsTorn : ℕ → ℕ → List ℕ → List ℕ → List ℕ → Type 0
 GatedPartsTorn at letter bytes old new =
     KeepsFront (at + 1) old new ⊎ Torn at (letter ∷ []) (overlaid (at + 1) bytes old) new

@@ -76,8 +76,8 @@ pub record FileCause {T E : Type 0} (file : ℕ) (old new : DiskView) (answer : 
   pub later : (other : ℕ) → old.faults other ≤ new.faults other
   pub cause : OnErr answer (Rose (old.faults file) (new.faults file))
 
--- No count falls, and where the answer is that the disk failed, the count of this file rose: `failed` says
--- that it is, as `result ≡ Err faults.Failed`, where there are other errors.
+-- No count falls, and where the answer is that the disk failed, the count of this file rose: `failed`
+-- says that it is, as `result ≡ Err faults.Failed`, where there are other errors.
 pub record FaultCause (file : ℕ) (old new : DiskView) (failed : Type 0) : Type 0 where
   pub later : (other : ℕ) → old.faults other ≤ new.faults other
   pub cause : failed → Rose (old.faults file) (new.faults file)

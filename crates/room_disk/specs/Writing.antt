@@ -1,5 +1,5 @@
--- Calls that write one file: what they make of its bytes, and what a crash may leave of them. `Whole` and
--- `Torn` relate the bytes before to those after: once all is done, and at a crash at any moment.
+-- Calls that write one file: what they make of its bytes, and what a crash may leave of them. `Whole`
+-- and `Torn` relate the bytes before to those after: once all is done, and at a crash at any moment.
 use Rattle.std.specs.Prelude.{◌≡◌, ◌⊎◌, ℕ, List, Result, OnOk}
 use Rattle.room_base.specs.Outside.{Told}
 use Rattle.room_disk.specs.Disk.{DiskView, Leaves, Settled, Others, OnFile, FileCause}
@@ -16,9 +16,11 @@ pub record ChangesFile {T E : Type 0} (file : ℕ) (Whole Torn : List ℕ → Li
   pub others : Told before.tells (Others file before now)
   pub whole : Told before.tells (OnOk answer (Whole (before.reads file) (now.reads file)))
   -- what a crash now may leave
-  pub torn : Told before.tells ((bytes : List ℕ) → now.leaves file bytes → ComesOf Torn before file bytes)
+  pub torn : Told before.tells ((bytes : List ℕ) → now.leaves file bytes
+      → ComesOf Torn before file bytes)
   -- what a crash at any moment of it leaves
-  pub moments : Told before.tells (Leaves before now (OnFile file (ComesOf Torn before file) before))
+  pub moments : Told before.tells
+      (Leaves before now (OnFile file (ComesOf Torn before file) before))
 
 -- The same, with a sync at the end.
 pub record WritesFile {T E : Type 0} (file : ℕ) (Whole Torn : List ℕ → List ℕ → Type 0)
@@ -28,8 +30,10 @@ pub record WritesFile {T E : Type 0} (file : ℕ) (Whole Torn : List ℕ → Lis
   pub others : Told before.tells (Others file before now)
   pub settled : Told before.tells (OnOk answer (Settled now file))
   pub whole : Told before.tells (OnOk answer (Whole (before.reads file) (now.reads file)))
-  pub torn : Told before.tells ((bytes : List ℕ) → now.leaves file bytes → ComesOf Torn before file bytes)
-  pub moments : Told before.tells (Leaves before now (OnFile file (ComesOf Torn before file) before))
+  pub torn : Told before.tells ((bytes : List ℕ) → now.leaves file bytes
+      → ComesOf Torn before file bytes)
+  pub moments : Told before.tells
+      (Leaves before now (OnFile file (ComesOf Torn before file) before))
 
 -- one step and then another
 abbrev pub Then : (List ℕ → List ℕ → Type 0) → (List ℕ → List ℕ → Type 0) → List ℕ → List ℕ → Type 0

@@ -20,8 +20,8 @@ pub fn write_unsynced<D: Store>(
     store.write_at(file, at, bytes)
 }
 
-/// Writes the parts one behind the other from `at` on, of which nothing need be on the disk before the
-/// file is synced.
+/// Writes the parts one behind the other from `at` on, of which nothing need be on the disk before
+/// the file is synced.
 pub fn write_parts<D: Store>(
     store: &mut D,
     file: u32,
@@ -98,7 +98,8 @@ pub fn write_parts_gated<D: Store>(
     requires inside { Told (D.view store.old).tells (at < length ((D.view store.old).reads file)) }
     // A crash leaves no open gate before bytes that aren't there.
     ensures { WritesFile file (Overlays at (letter ∷ all_bytes parts.now))
-        (GatedPartsTorn at letter (all_bytes parts.now)) (D.view store.old) (D.view store.new) result }
+        (GatedPartsTorn at letter (all_bytes parts.now))
+        (D.view store.old) (D.view store.new) result }
 {
     write_parts_synced(store, file, at + 1, parts)?;
     open_gate(store, file, at, letter)
@@ -119,9 +120,9 @@ fn write_parts_synced<D: Store>(
     store.sync(file)
 }
 
-/// Writes a file anew: the gate letter, which its first byte is, and the parts behind it. The gate is
-/// closed first, and opened only once all parts are on the disk. A crash at any moment leaves the file as it
-/// was, or with its gate closed, or whole.
+/// Writes a file anew: the gate letter, which its first byte is, and the parts behind it. The gate
+/// is closed first, and opened only once all parts are on the disk. A crash at any moment leaves the
+/// file as it was, or with its gate closed, or whole.
 pub fn write_anew<D: Store>(
     store: &mut D,
     file: u32,
@@ -129,7 +130,8 @@ pub fn write_anew<D: Store>(
     parts: &[&[u8]],
 ) -> Result<(), Failed>
     requires { IsGateLetter letter }
-    ensures { WritesFile file (IsAnew letter (all_bytes parts.now)) (AnewTorn letter (all_bytes parts.now))
+    ensures { WritesFile file (IsAnew letter (all_bytes parts.now))
+        (AnewTorn letter (all_bytes parts.now))
         (D.view store.old) (D.view store.new) result }
 {
     write_synced(store, file, 0, &[0])?;

@@ -35,12 +35,13 @@ abbrev pub IsWholeOrAbsent : Label → List CommittedFile → ℕ → List (List
 IsWholeOrAbsent label files mark blocks bytes =
     Committed bytes (Labelled label files (Closed mark)) ⊎ Committed bytes (with_file label files mark blocks)
 
--- A commit of the region at the mark place: the bytes of the cartridge after it, and that of a volume with
--- this label whose files end there, the region is one more.
+-- A commit of the region at the mark place: the bytes of the cartridge after it, and that of a volume
+-- with this label whose files end there, the region is one more.
 pub record AddsFile (label : Label) (mark : ℕ) (region old new : List ℕ) : Type 0 where
   pub written : new ≡ overlaid (4096 * mark) (opened region) old
   pub added : (files : List CommittedFile) (blocks : List (List ChunkText))
-      → IsSealed label.volid.0 mark blocks region → Committed old (Labelled label files (Closed mark))
+      → IsSealed label.volid.0 mark blocks region
+      → Committed old (Labelled label files (Closed mark))
       → Committed new (with_file label files mark blocks)
 
 -- what a commit that may have been cut short leaves: the old files, or these and the new one
@@ -64,7 +65,8 @@ IsBeingLabelled label old bytes =
 
 -- while a closed cartridge gets its label it has none, or has the new label and no file
 abbrev pub IsOpening : Label → List ℕ → List ℕ → Type 0
-IsOpening label old bytes = IsClosed old → Committed bytes Unlabelled ⊎ Committed bytes (without_files label)
+IsOpening label old bytes =
+    IsClosed old → Committed bytes Unlabelled ⊎ Committed bytes (without_files label)
 
 -- the cartridge got this label, and has no file
 pub record Relabels (label : Label) (old new : List ℕ) : Type 0 where

@@ -19,9 +19,9 @@ pub struct Volume {
 }
 
 impl Volume {
-    /// Makes the region the volume's next file; `count` is the number of its data blocks. A crash at any
-    /// moment leaves the old files, or these and the new one. After `Failed` either may stand on the
-    /// cartridge, so the volume is to be mounted again.
+    /// Makes the region the volume's next file; `count` is the number of its data blocks. A crash at
+    /// any moment leaves the old files, or these and the new one. After `Failed` either may stand on
+    /// the cartridge, so the volume is to be mounted again.
     pub fn commit<D: Store>(
         &mut self,
         store: &mut D,

@@ -76,11 +76,12 @@ fn open_label_of(bytes: &[u8]) -> Found
     }
 }
 
-/// Writes a label on its cartridge, whose files are then gone. A crash at any moment leaves the cartridge
-/// as it was, without a label, or with the new label and no file; so it may be after `Failed`.
+/// Writes a label on its cartridge, whose files are then gone. A crash at any moment leaves the
+/// cartridge as it was, without a label, or with the new label and no file; so it may be after `Failed`.
 pub fn write_label<D: Store>(store: &mut D, label: &Label) -> Result<(), Failed>
     requires { IsLabel label.now }
-    ensures { WritesFile (cart_file label.now.cart.0) (Relabels label.now) (IsBeingLabelled label.now)
+    ensures { WritesFile (cart_file label.now.cart.0) (Relabels label.now)
+        (IsBeingLabelled label.now)
         (D.view store.old) (D.view store.new) result }
 {
     let file = label.cart.0 + 1;

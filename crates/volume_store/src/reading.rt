@@ -63,9 +63,9 @@ pub fn read_block<D: Store>(
     }
 }
 
-/// Reads the blocks of a cartridge from this number on, as many as there is room for, in one read of the
-/// disk. Answers how many bytes of them are there: fewer than there is room for where the file ends.
-/// `judge_block` judges each.
+/// Reads the blocks of a cartridge from this number on, as many as there is room for, in one read of
+/// the disk. Answers how many bytes of them are there: fewer than there is room for where the file
+/// ends. `judge_block` judges each.
 pub fn read_blocks<D: Store>(
     store: &mut D,
     cart: Cart,
@@ -78,14 +78,15 @@ pub fn read_blocks<D: Store>(
     ensures tells { (D.view store.new).tells ≡ (D.view store.old).tells }
     ensures quiet { Told (D.view store.old).tells (Quiet (D.view store.old) (D.view store.new)) }
     ensures read { Told (D.view store.old).tells (IfOk result (λ count.
-        HoldsBlocks ((D.view store.old).reads (cart_file cart.0)) first (length into.old) (take count into.new))) }
+        HoldsBlocks ((D.view store.old).reads (cart_file cart.0)) first
+        (length into.old) (take count into.new))) }
 {
     read_from(store, cart.0 + 1, first, into)
 }
 
 #[tactic(auto, using(crate::proofs::Finding::wrong_block))]
-/// Judges the bytes of the block with this number of this volume, of which some may be missing where the
-/// file ends inside it.
+/// Judges the bytes of the block with this number of this volume, of which some may be missing where
+/// the file ends inside it.
 pub fn judge_block(bytes: &[u8], volid: Volid, number: u64) -> Result<Block, BadBlock>
     requires { length bytes.now ≤ 4096 }
     ensures judged { IsJudged bytes.now volid.0 number result }
