@@ -10,7 +10,7 @@ use Rattle.room_base.specs.declared.numbers.Ssid.{Ssid}
 use Rattle.save_stream.specs.declared.entry.IndexEntry.{IndexEntry}
 use Rattle.save_stream.specs.Spelling.{IsBelow}
 use Rattle.client_index.specs.declared.index.SetIndex.{SetIndex}
-use Rattle.client_index.specs.Order.{PathsAscend, PathsAscendFrom}
+use Rattle.save_stream.specs.Spelling.{PathsAscend, PathsAscendFrom}
 use Rattle.client_index.specs.View.{entry_of, first_of, deciding}
 use Rattle.client_index.specs.Walk.{IsUpTo, EachAscends, EachAscendsFrom, BeginsFrom, IsLeast, lesser_of, lesser}
 use Rattle.room_base.proofs.OrderedLists.{upto_less, less_upto, less_back, upto_itself, greater_is}

@@ -15,7 +15,7 @@ use Rattle.save_stream.specs.declared.entry.IndexEntry.{IndexEntry}
 use Rattle.save_stream.specs.Spelling.{IsBelow}
 use Rattle.client_index.specs.declared.index.SetIndex.{SetIndex}
 use Rattle.client_index.specs.declared.walk.Rest.{Rest}
-use Rattle.client_index.specs.Order.{PathsAscend, PathsAscendFrom}
+use Rattle.save_stream.specs.Spelling.{PathsAscend, PathsAscendFrom}
 use Rattle.client_index.specs.View.{entry_of, first_of, deciding}
 use Rattle.client_index.specs.Walk.{EachAscends, EachAscendsFrom, BeginsFrom, past, past_in, has_entries, passed, rest_of, rests_of}
 use Rattle.client_index.proofs.Paths.{skips}

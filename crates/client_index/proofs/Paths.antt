@@ -12,7 +12,7 @@ use Rattle.std.proofs.Math.Seq.{take-length}
 use Rattle.save_stream.specs.declared.entry.IndexEntry.{IndexEntry}
 use Rattle.save_stream.specs.Spelling.{IsBelow}
 use Rattle.room_base.specs.Ordered.{IsPlace, find_by}
-use Rattle.client_index.specs.Order.{path_of, PathsAscend}
+use Rattle.save_stream.specs.Spelling.{path_of, PathsAscend}
 use Rattle.client_index.specs.View.{entry_of}
 use Rattle.client_index.specs.Walk.{AreAbove}
 use Rattle.room_base.proofs.OrderedLists.{from_lower, greater_back, before_place, ascend_rest, tail_place, tail_gap}

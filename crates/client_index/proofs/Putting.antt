@@ -10,7 +10,7 @@ use Rattle.room_base.specs.declared.numbers.Ssid.{Ssid}
 use Rattle.room_base.proofs.OrderedSearch.{found_read, none_at}
 use Rattle.room_base.proofs.OrderedUpdates.{ascends_put, ascends_removed, each_put, each_removed}
 use Rattle.client_index.specs.declared.index.SetIndex.{SetIndex}
-use Rattle.client_index.specs.Order.{PathsAscend}
+use Rattle.save_stream.specs.Spelling.{PathsAscend}
 use Rattle.client_index.specs.Sets.{AreOrdered, entries_of, forget, number_of, put}
 
 pub entries_at : (sets : List SetIndex) (ssid : Ssid) (at : ℕ) (set : SetIndex) → AreOrdered sets → IsPlace nat_cmp number_of ssid.0 sets (Ok at) → set ≡ get_or sets at set → Some set.entries ≡ entries_of sets ssid

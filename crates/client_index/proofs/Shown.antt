@@ -1,6 +1,6 @@
 -- What the view is after an index was put or forgotten, and of what entries it consists.
-use Rattle.std.proofs.Common.{◌≡◌, ◌≢◌, ℕ, zero, suc, ◌+◌, Bool, true, false, cond, List, [], ◌∷◌, length, refl, sym, ap, ◌∙◌, subst, arith}
-use Rattle.std.specs.Prelude.{Option, Some, None, ◌==◌, nat_eq, unwrap_or, Contains, replicate, ◌↔◌}
+use Rattle.std.proofs.Common.{◌≡◌, ◌≢◌, ℕ, zero, suc, Bool, true, false, cond, List, [], ◌∷◌, refl, sym, ap, ◌∙◌, subst, arith}
+use Rattle.std.specs.Prelude.{Option, Some, None, ◌==◌, nat_eq, unwrap_or, Contains, ◌↔◌}
 use Rattle.std.specs.List.{AllByRecursion}
 use Rattle.std.specs.Option.{option_map, option_and_then}
 use Rattle.std.specs.Cmp.{unsigned_ties}
@@ -8,21 +8,16 @@ use Rattle.std.specs.Cmp.Lexicographic.{slice_cmp, pointwise, nat_list_cmp_total
 use Rattle.std.specs.Ordering.{nat_cmp, eq_by_cmp}
 use Rattle.std.proofs.lemmas.Bool.{cond-true, cond-false, eq-eqb, ne_eqb}
 use Rattle.std.proofs.lemmas.Cmp.{tied_itself, nat_cmp_total}
-use Rattle.std.proofs.lemmas.List.{get_or_default, length-replicate}
+use Rattle.std.proofs.lemmas.List.{get_or_default}
 use Rattle.room_base.specs.declared.numbers.Ssid.{Ssid}
 use Rattle.save_stream.specs.declared.entry.EntryKind.{EntryKind}
 use Rattle.save_stream.specs.declared.entry.EntryKind.TheVariants as kinds
 use Rattle.save_stream.specs.declared.entry.IndexEntry.{IndexEntry}
-use Rattle.save_stream.specs.declared.head.SetHead.{SetHead}
-use Rattle.save_stream.specs.Spelling.{Saved, Ascend, index_from, entry_text}
-use Rattle.save_stream.specs.Reading.{Reading}
-use Rattle.save_stream.specs.Standing.{Stands, StandsAt}
 use Rattle.client_index.specs.declared.index.SetIndex.{SetIndex}
 use Rattle.client_index.specs.declared.seen.Seen.{Seen}
-use Rattle.client_index.specs.Order.{path_of, PathsAscend, PathsAscendFrom}
+use Rattle.save_stream.specs.Spelling.{path_of, PathsAscend}
 use Rattle.client_index.specs.Sets.{AreOrdered, entries_of, entries_or_none, forget, number_of, put}
 use Rattle.client_index.specs.View.{shown, seen_of, entry_of, first_of, deciding, chain_of, view_of, view}
-use Rattle.room_base.proofs.OrderedLists.{ascend_alone}
 use Rattle.client_index.proofs.Paths.{entry_at}
 use Rattle.room_base.specs.Ordered.{find_by}
 use Rattle.room_base.proofs.OrderedLaws.{found_has_key, found_put, found_removed, same_lists}
@@ -182,18 +177,3 @@ seen-found sets (ssid ∷ chain) path seen is = by (entry_of (unwrap_or (entries
           at = has.1;
           is = subst (λ s. seen_of s entry ≡ Some seen) owned here;
         }
-
--- ---- streams
-
-pub index_ascends : (last : List ℕ) (at : ℕ) (entries : List Saved) → Ascend last entries → PathsAscendFrom last (index_from at entries)
-index_ascends last at [] ascend = tt
-index_ascends last at (entry ∷ entries) ascend = (ascend.0, index_ascends entry.path (at + length (entry_text entry)) entries ascend.1)
-
-at_head : (head : Option SetHead) (text : List ℕ) (reading : Reading) → StandsAt head text reading → PathsAscend reading.entries
-at_head None text reading stands = subst PathsAscend (sym stands.none.1) tt
-at_head (Some head) text reading stands =
-    let spelled = stands.spelled (replicate reading.left 0) (length-replicate reading.left 0) in
-    subst PathsAscend (sym spelled.1.index_is) (ascend_alone nat_list_cmp_total path_of [] _ (index_ascends [] _ spelled.0 spelled.1.order))
-
-pub read_ascends : (text : List ℕ) (reading : Reading) → Stands text reading → PathsAscend reading.entries
-read_ascends text reading stands = at_head reading.head text reading stands.at

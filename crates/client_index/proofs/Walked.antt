@@ -16,7 +16,7 @@ use Rattle.save_stream.specs.Spelling.{IsBelow}
 use Rattle.client_index.specs.declared.index.SetIndex.{SetIndex}
 use Rattle.client_index.specs.declared.seen.Seen.{Seen}
 use Rattle.client_index.specs.declared.walk.Rest.{Rest}
-use Rattle.client_index.specs.Order.{path_of, PathsAscend, PathsAscendFrom}
+use Rattle.save_stream.specs.Spelling.{path_of, PathsAscend, PathsAscendFrom}
 use Rattle.client_index.specs.Sets.{entries_of}
 use Rattle.client_index.specs.View.{seen_of, entry_of, first_of, deciding, chain_of, view_of, SeenAscend, AreFirstSeen}
 use Rattle.client_index.specs.Walk.{IsUpTo, EachAscends, EachAscendsFrom, DecideAlike, AreAbove, IsLeast, passed, added, rest_of, rests_of}

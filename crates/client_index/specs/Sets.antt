@@ -7,7 +7,7 @@ use Rattle.room_base.specs.Ordered.{Ascends, find_by, put_by, remove_by}
 use Rattle.room_base.specs.declared.numbers.Ssid.{Ssid}
 use Rattle.save_stream.specs.declared.entry.IndexEntry.{IndexEntry}
 use Rattle.client_index.specs.declared.index.SetIndex.{SetIndex}
-use Rattle.client_index.specs.Order.{PathsAscend}
+use Rattle.save_stream.specs.Spelling.{PathsAscend}
 
 -- the indexes of sets, and how many more fit without taking memory
 pub record Indexes : Type 0 where

@@ -12,7 +12,7 @@ use Rattle.save_stream.specs.Spelling.{IsBelow}
 use Rattle.client_index.specs.declared.seen.Seen.{Seen}
 use Rattle.client_index.specs.declared.index.SetIndex.{SetIndex}
 use Rattle.client_index.specs.declared.walk.Rest.{Rest}
-use Rattle.client_index.specs.Order.{PathsAscend, PathsAscendFrom}
+use Rattle.save_stream.specs.Spelling.{PathsAscend, PathsAscendFrom}
 use Rattle.client_index.specs.View.{entry_of, deciding}
 
 abbrev pub rest_of : Rest → SetIndex

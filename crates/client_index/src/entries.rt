@@ -4,7 +4,7 @@ ghost use Rattle.std.specs.Prelude.{◌≡◌, ◌↔◌, IsTrue, option_copied}
 ghost use Rattle.std.specs.Ordering.{nat_cmp};
 ghost use Rattle.std.specs.Cmp.Lexicographic.{slice_cmp};
 ghost use Rattle.room_base.specs.Ordered.{IsPlace};
-ghost use Rattle.client_index.specs.Order.{PathsAscend, path_of};
+ghost use Rattle.save_stream.specs.Spelling.{PathsAscend, path_of};
 ghost use Rattle.client_index.specs.View.{entry_of};
 ghost use Rattle.client_index.specs.Walk.{AreAbove};
 

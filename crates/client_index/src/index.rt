@@ -4,7 +4,7 @@ ghost use Rattle.std.specs.Prelude.{◌≡◌, ◌<◌, ◌≤◌, ◌+◌, ◌�
 ghost use Rattle.std.specs.Prelude.{option_copied};
 ghost use Rattle.std.specs.Ordering.{nat_cmp};
 ghost use Rattle.room_base.specs.Ordered.{IsPlace};
-ghost use Rattle.client_index.specs.Order.{PathsAscend};
+ghost use Rattle.save_stream.specs.Spelling.{PathsAscend};
 ghost use Rattle.client_index.specs.Sets.{AreOrdered, entries_of, forget, number_of, put};
 ghost use Rattle.client_index.specs.View.{chain_of, seen_of, view, AreFirstSeen};
 ghost use Rattle.client_index.specs.Walk.{EachAscendsFrom, DecideAlike, added, rests_of};

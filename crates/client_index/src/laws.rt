@@ -11,7 +11,7 @@ ghost use Rattle.save_stream.specs.Reading.{Reading};
 ghost use Rattle.save_stream.specs.Standing.{Stands};
 ghost use Rattle.client_index.specs.declared.index.SetIndex.{SetIndex};
 ghost use Rattle.client_index.specs.declared.seen.Seen.{Seen};
-ghost use Rattle.client_index.specs.Order.{PathsAscend, PathsAscendFrom};
+ghost use Rattle.save_stream.specs.Spelling.{PathsAscend, PathsAscendFrom};
 ghost use Rattle.client_index.specs.Sets.{AreOrdered, entries_of, entries_or_none, forget, put};
 ghost use Rattle.client_index.specs.View.{chain_of, seen_of, view, view_of};
 

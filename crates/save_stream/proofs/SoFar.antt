@@ -88,7 +88,7 @@ piece-so-far old new piece is fit room read = (
 
 -- ---- the order of its entries
 
-index-ascends : (last : List ℕ) (at : ℕ) (entries : List Saved) → Ascend last entries → PathsAscendFrom last (index_from at entries)
+pub index-ascends : (last : List ℕ) (at : ℕ) (entries : List Saved) → Ascend last entries → PathsAscendFrom last (index_from at entries)
 index-ascends last at [] order = tt
 index-ascends last at (entry ∷ entries) order = (order.0, index-ascends entry.path (at + length (entry_text entry)) entries order.1)
 

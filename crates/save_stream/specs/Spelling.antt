@@ -7,6 +7,7 @@ use Rattle.std.specs.Cmp.Lexicographic.{slice_cmp}
 use Rattle.std.specs.declared.cmp.Ordering.TheVariants.{Less}
 use Rattle.byteorder.specs.Endian.{big_bytes}
 use Rattle.room_base.specs.Numbers.{max_moment}
+use Rattle.room_base.specs.Ordered.{Ascends, AscendsFrom}
 use Rattle.room_base.specs.Text.{HasLength, IsName, IsPathText}
 use Rattle.save_stream.specs.declared.entry.EntryKind.{EntryKind}
 use Rattle.save_stream.specs.declared.entry.EntryKind.TheVariants as kinds
@@ -87,18 +88,19 @@ IsBelow one other = slice_cmp nat_cmp one other ≡ Less
 
 -- the paths ascend strictly, from above this one
 abbrev pub Ascend : List ℕ → List Saved → Type 0
-Ascend last [] = Unit {0}
-Ascend last (entry ∷ entries) = IsBelow last entry.path × Ascend entry.path entries
+Ascend last entries =
+    AscendsFrom (slice_cmp nat_cmp) (λ (entry : Saved). entry.path) last entries
 
--- the paths of an index ascend strictly, from above this one
+abbrev pub path_of : IndexEntry → List ℕ
+path_of entry = entry.path
+
+-- the paths of entries ascend strictly by bytes, from above this one
 abbrev pub PathsAscendFrom : List ℕ → List IndexEntry → Type 0
-PathsAscendFrom low [] = Unit {0}
-PathsAscendFrom low (entry ∷ entries) = IsBelow low entry.path × PathsAscendFrom entry.path entries
+PathsAscendFrom low entries = AscendsFrom (slice_cmp nat_cmp) path_of low entries
 
--- the paths of an index ascend strictly
+-- the paths of entries ascend strictly by bytes
 abbrev pub PathsAscend : List IndexEntry → Type 0
-PathsAscend [] = Unit {0}
-PathsAscend (entry ∷ entries) = PathsAscendFrom entry.path entries
+PathsAscend entries = Ascends (slice_cmp nat_cmp) path_of entries
 
 -- a number of two bytes
 unfoldable pub short_number_text : ℕ → List ℕ

@@ -4,7 +4,7 @@ use Rattle.std.specs.Ordering.{nat_cmp, is_lt}
 use Rattle.std.proofs.lemmas.List.Sorted.{answers_always}
 use Rattle.save_stream.specs.declared.entry.IndexEntry.{IndexEntry}
 use Rattle.room_base.proofs.OrderedLists.{tested}
-use Rattle.client_index.specs.Order.{path_of}
+use Rattle.save_stream.specs.Spelling.{path_of}
 use Rattle.client_index.proofs.entries.paths_ascend.Goals as goal
 
 pub returns : goal.returns
