@@ -5,6 +5,7 @@ pub mod Files
 pub mod Fronts
 pub mod Keeping
 pub mod Overlay
+pub mod ReadingOn
 pub mod Rebuilt
 pub mod Replaying
 pub mod Room

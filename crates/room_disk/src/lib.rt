@@ -5,15 +5,23 @@
 mod disk_event;
 mod fault_counts;
 mod file_bytes;
+mod file_name;
+mod file_state;
+mod folder;
 mod folder_store;
 mod gate;
 mod history;
+mod known_folder;
 mod mem_file;
 mod mem_store;
+mod opened;
 mod part;
+mod reading;
 mod rebuilding;
 mod store;
+mod system_folder;
 
+pub use folder::Folder;
 pub use folder_store::FolderStore;
 pub use gate::{
     cut_unsynced, open_gate, write_anew, write_gated, write_parts, write_parts_gated, write_synced,
@@ -21,6 +29,7 @@ pub use gate::{
 };
 pub use mem_store::MemStore;
 pub use store::Store;
+pub use system_folder::SystemFolder;
 
 #[cfg(test)]
 mod tests;
