@@ -2,6 +2,7 @@ pub mod Anew
 pub mod Beginning
 pub mod Crashing
 pub mod Files
+pub mod Folders
 pub mod Fronts
 pub mod Keeping
 pub mod Overlay

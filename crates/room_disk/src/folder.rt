@@ -1,11 +1,10 @@
 ghost use Rattle.std.specs.Prelude.{◌≡◌, ℕ, ◌<◌, ◌≤◌, Bool, IsTrue, [], length, IfOk, OnOk};
-ghost use Rattle.std.specs.Prelude.{MatchOption, IfSome, List};
+ghost use Rattle.std.specs.Prelude.{MatchOption, IfSome, List, take};
 ghost use Rattle.room_base.specs.Outside.{Told};
 ghost use Rattle.room_disk.specs.Crash.{overlaid, Torn, CutShort};
 ghost use Rattle.room_disk.specs.Disk.{IsDisk, Quiet, Settled};
 ghost use Rattle.room_disk.specs.Folder.{FolderView, file_name, KeepsFiles, ChangesOne, IsAbsent};
 ghost use Rattle.room_disk.specs.Folder.{ReadsSome};
-ghost use Rattle.std.specs.Prelude.{take};
 
 use room_base::Failed;
 
@@ -25,14 +24,16 @@ pub trait Folder {
 
     /// Opens a file, for reading alone or for writing too. None where the folder has no such file.
     fn open(&mut self, file: u32, name: &str, writes: bool) -> Result<Option<Self::File>, Failed>
-        requires { name.now ≡ file_name file }
+        requires named { file < 258 }
+        requires name { name.now ≡ file_name file }
         ensures kept { Told tells (KeepsFiles (view self.old) (view self.new)) }
         ensures found { Told tells (IfOk result (λ found. MatchOption found
             (IsAbsent (view self.new).disk file) (λ opened. number opened ≡ file))) };
 
     /// Makes a file that isn't there, and opens it for reading and writing.
     fn make(&mut self, file: u32, name: &str) -> Result<Self::File, Failed>
-        requires { name.now ≡ file_name file }
+        requires named { file < 258 }
+        requires name { name.now ≡ file_name file }
         ensures quiet { Told tells (Quiet (view self.old).disk (view self.new).disk) }
         ensures made { Told tells (IfOk result (λ opened. number opened ≡ file)) };
 

@@ -13,6 +13,7 @@ mod gate;
 mod history;
 mod known_folder;
 mod mem_file;
+mod mem_folder;
 mod mem_store;
 mod opened;
 mod part;
@@ -27,6 +28,7 @@ pub use gate::{
     cut_unsynced, open_gate, write_anew, write_gated, write_parts, write_parts_gated, write_synced,
     write_unsynced,
 };
+pub use mem_folder::{MemFolder, MemHandle};
 pub use mem_store::MemStore;
 pub use store::Store;
 pub use system_folder::SystemFolder;
