@@ -8,6 +8,7 @@ mod file_bytes;
 mod file_name;
 mod file_state;
 mod folder;
+mod folder_lock;
 mod folder_store;
 mod gate;
 mod history;
@@ -23,6 +24,7 @@ mod store;
 mod system_folder;
 
 pub use folder::Folder;
+pub use folder_lock::{Access, FolderLock, LockFault};
 pub use folder_store::FolderStore;
 pub use gate::{
     cut_unsynced, open_gate, write_anew, write_gated, write_parts, write_parts_gated, write_synced,
@@ -33,5 +35,7 @@ pub use mem_store::MemStore;
 pub use store::Store;
 pub use system_folder::SystemFolder;
 
+#[cfg(test)]
+mod folder_tests;
 #[cfg(test)]
 mod tests;

@@ -100,7 +100,8 @@ impl Folder for MemFolder {
         into: &mut [u8],
     ) -> Result<Option<u64>, Failed> {
         next(&mut self.calls)?;
-        let count = self.store.read_at(file.file, at, into)?;
+        let half = into.len() - into.len() / 2;
+        let count = self.store.read_at(file.file, at, &mut into[..half])?;
         Ok(Some(count))
     }
 
