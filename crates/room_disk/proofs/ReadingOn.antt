@@ -1,8 +1,8 @@
 -- Calls that read of a folder, one behind the other.
-use Rattle.std.proofs.Common.{◌≡◌, ℕ, ◌+◌, ◌-◌, ◌<◌, ◌≤◌, List, [], ◌++◌, length, take, drop, arith, ap, ◌∙◌, sym, subst}
-use Rattle.std.proofs.lemmas.List.{places, length-take}
+use Rattle.std.proofs.Common.{◌≡◌, ℕ, ◌+◌, ◌-◌, ◌<◌, ◌≤◌, List, [], ◌++◌, length, take, drop, min, arith, ap, ◌∙◌, sym, subst}
+use Rattle.std.proofs.lemmas.List.{places, length-take, take-append-le}
 use Rattle.std.proofs.lemmas.Grind.{same_number_lists}
-use Rattle.room_disk.specs.Folder.{FolderView, KeepsFiles, HasRead}
+use Rattle.room_disk.specs.Folder.{FolderView, KeepsFiles, HasRead, ReadsSome}
 use Rattle.room_disk.proofs.Runs.{quiet_none, quiet_then}
 
 pub keeps_none : (folder : FolderView) → KeepsFiles folder folder
@@ -80,3 +80,33 @@ read_more bytes there first now tail at done next count room is same old new =
     let R : List ℕ → Type 0 = λ l. HasRead bytes at first (take done now ++ l) (done + count) in
     subst R (sym (ap (λ (l : List ℕ). tail ++ l) (no_rest now done room) ∙ none_behind tail))
     (read_behind bytes first now tail at done count room old behind)
+
+drop_front : (front rest : List ℕ) (count : ℕ) → count ≤ length front → drop count (front ++ rest) ≡ drop count front ++ rest
+drop_front front rest count within =
+    same_number_lists _ _ (grind (arith, places)) (λ k below. grind (arith, places))
+
+joined_rest : (list : List ℕ) (half count : ℕ) → count ≤ half → half ≤ length list
+    → drop count (take half list) ++ drop half list ≡ drop count list
+joined_rest list half count within room =
+    same_number_lists _ _ (grind (arith, places)) (λ k below. grind (arith, places))
+
+-- a read into a front is one into the whole
+pub front_reads : (bytes into front : List ℕ) (at half count : ℕ) → half ≤ length into
+    → (0 < length into → 0 < half) → length front ≡ length (take half into)
+    → count ≡ min (length (take half into)) (length bytes - at)
+    → take count front ≡ take count (drop at bytes)
+    → drop count front ≡ drop count (take half into)
+    → ReadsSome bytes at into (front ++ drop half into) count
+front_reads bytes into front at half count room some same is given rest =
+    let size : length (take half into) ≡ half = omega (arith, length-take half into) in
+    let within : count ≤ length front = omega (arith, same, is) in
+    record {
+      read = record {
+        within = omega (arith, is);
+        given = take-append-le count front (drop half into) within ∙ given;
+        rest = drop_front front (drop half into) count within
+            ∙ ap (λ (l : List ℕ). l ++ drop half into) rest
+            ∙ joined_rest into half count (omega arith) room;
+      };
+      ended = λ any none. let one : 0 < half = some any in omega (arith, is, one, size, none);
+    }

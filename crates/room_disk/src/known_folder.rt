@@ -119,6 +119,7 @@ impl<F: Folder> KnownFolder<F> {
         ensures quiet { Told F.tells (Quiet (F.view self.old.folder).disk (F.view self.new.folder).disk) }
         ensures lost { KeepsLost self.old.states self.new.states }
         ensures fails { IsLost self.old.states file → IsErr result }
+        ensures named { OnOk result (file < 258) }
         ensures found { IfOk result (λ index. (index < length self.new.opened.items)
             × (IsFree self.new.states file)
             × ((other : _) → (slice_index_or self.new.opened.items index other).file ≡ file)) }
@@ -182,6 +183,7 @@ impl<F: Folder> KnownFolder<F> {
         ensures kept { Told F.tells (KeepsFiles (F.view self.old.folder) (F.view self.new.folder)) }
         ensures lost { KeepsLost self.old.states self.new.states }
         ensures fails { IsLost self.old.states file → IsErr result }
+        ensures named { OnOk result (file < 258) }
         ensures length { Told F.tells
             (IfOk result (λ len. len ≡ length ((F.view self.old.folder).disk.reads file))) }
     {
@@ -199,6 +201,7 @@ impl<F: Folder> KnownFolder<F> {
         ensures kept { Told F.tells (KeepsFiles (F.view self.old.folder) (F.view self.new.folder)) }
         ensures lost { KeepsLost self.old.states self.new.states }
         ensures fails { IsLost self.old.states file → IsErr result }
+        ensures named { OnOk result (file < 258) }
         ensures given { Told F.tells (IfOk result (λ count.
             ReadsAll ((F.view self.old.folder).disk.reads file) at into.old into.new count)) }
     {
@@ -215,6 +218,7 @@ impl<F: Folder> KnownFolder<F> {
         ensures fits { OnOk result (at + length bytes.now < 2 ^ 64) }
         ensures lost { KeepsLost self.old.states self.new.states }
         ensures fails { IsLost self.old.states file → IsErr result }
+        ensures named { OnOk result (file < 258) }
         ensures written { Told F.tells (OnOk result ((F.view self.new.folder).disk.reads file
             ≡ overlaid at bytes.now ((F.view self.old.folder).disk.reads file))) }
         ensures changes { Told F.tells (ChangesDisk file (Torn at bytes.now)
@@ -253,6 +257,7 @@ impl<F: Folder> KnownFolder<F> {
         requires { Told F.tells (to ≤ length ((F.view self.old.folder).disk.reads file)) }
         ensures lost { KeepsLost self.old.states self.new.states }
         ensures fails { IsLost self.old.states file → IsErr result }
+        ensures named { OnOk result (file < 258) }
         ensures cut { Told F.tells (OnOk result ((F.view self.new.folder).disk.reads file
             ≡ take to ((F.view self.old.folder).disk.reads file))) }
         ensures changes { Told F.tells (ChangesDisk file (CutShort to)
@@ -273,6 +278,7 @@ impl<F: Folder> KnownFolder<F> {
         ensures kept { Told F.tells (KeepsFiles (F.view self.old.folder) (F.view self.new.folder)) }
         ensures lost { KeepsLost self.old.states self.new.states }
         ensures fails { IsLost self.old.states file → IsErr result }
+        ensures named { OnOk result (file < 258) }
         ensures failed { OnErr result (file < 258 → IsLost self.new.states file) }
         ensures settled { Told F.tells
             (OnOk result (Settled (F.view self.new.folder).disk file)) }
@@ -288,6 +294,7 @@ impl<F: Folder> KnownFolder<F> {
         ensures kept { Told F.tells (KeepsFiles (F.view self.old.folder) (F.view self.new.folder)) }
         ensures lost { KeepsLost self.old.states self.new.states }
         ensures fails { IsLost self.old.states file → IsErr result }
+        ensures named { OnOk result (file < 258) }
         ensures settled { Told F.tells
             (OnOk result (Settled (F.view self.new.folder).disk file)) }
     {

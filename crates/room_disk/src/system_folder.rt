@@ -1,5 +1,5 @@
-ghost use Rattle.std.specs.Prelude.{◌≡◌, ◌<◌, ◌≤◌, IfOk, IfSome, length};
-ghost use Rattle.room_disk.specs.Folder.{file_name};
+ghost use Rattle.std.specs.Prelude.{◌≡◌, Ok, Some, None, IfOk, IfErr, IsErr, MatchResult};
+ghost use Rattle.std.specs.IoError.{error_kind};
 
 use crate::folder::Folder;
 use room_base::{Failed, Name};
@@ -62,14 +62,11 @@ impl<R: Files<File = File>> Folder for SystemFolder<R> {
         let mut how = OpenOptions::new();
         how.read(true);
         how.write(writes);
-        match self.open_as(name, &how)? {
-            Ok(opened) => Ok(Some(opened)),
-            Err(fault) if fault.kind() == ErrorKind::NotFound => {
-                self.open_folder()?;
-                Ok(None)
-            }
-            Err(_) => Err(Failed),
+        let opened = found(self.open_as(name, &how)?)?;
+        if opened.is_none() {
+            self.open_folder()?;
         }
+        Ok(opened)
     }
 
     fn make(&mut self, _file: u32, name: &str) -> Result<File, Failed> {
@@ -88,11 +85,7 @@ impl<R: Files<File = File>> Folder for SystemFolder<R> {
         if at > MAX_OFFSET {
             return Ok(Some(0));
         }
-        match file.read_at(into, at) {
-            Ok(count) => Ok(Some(count as u64)),
-            Err(fault) if fault.kind() == ErrorKind::Interrupted => Ok(None),
-            Err(_) => Err(Failed),
-        }
+        some_read(file.read_at(into, at))
     }
 
     fn write_at(&mut self, file: &File, at: u64, bytes: &[u8]) -> Result<(), Failed> {
@@ -116,9 +109,37 @@ impl<R: Files<File = File>> Folder for SystemFolder<R> {
     }
 }
 
-fn answer<T>(done: io::Result<T>) -> Result<T, Failed> {
+fn answer<T>(done: io::Result<T>) -> Result<T, Failed>
+    ensures { MatchResult done (λ value. result ≡ Ok value) (λ _. IsErr result) }
+{
     match done {
         Ok(value) => Ok(value),
+        Err(_) => Err(Failed),
+    }
+}
+
+// A file that was opened, or None where there is no such file. Any other fault is one.
+fn found<T>(opened: io::Result<T>) -> Result<Option<T>, Failed>
+    ensures opened { IfOk opened (λ file. result ≡ Ok (Some file)) }
+    ensures absent { IfErr opened (λ fault. IfOk result
+        (λ found. (found ≡ None) × (error_kind fault ≡ ErrorKind.NotFound))) }
+{
+    match opened {
+        Ok(file) => Ok(Some(file)),
+        Err(fault) if fault.kind() == ErrorKind::NotFound => Ok(None),
+        Err(_) => Err(Failed),
+    }
+}
+
+// How many bytes were read, or None where a signal came first. Any other fault is one.
+fn some_read(done: io::Result<usize>) -> Result<Option<u64>, Failed>
+    ensures read { IfOk done (λ count. result ≡ Ok (Some count)) }
+    ensures interrupted { IfErr done (λ fault. IfOk result
+        (λ some. (some ≡ None) × (error_kind fault ≡ ErrorKind.Interrupted))) }
+{
+    match done {
+        Ok(count) => Ok(Some(count as u64)),
+        Err(fault) if fault.kind() == ErrorKind::Interrupted => Ok(None),
         Err(_) => Err(Failed),
     }
 }
