@@ -2,9 +2,11 @@ pub mod Anew
 pub mod Beginning
 pub mod Crashing
 pub mod Files
+pub mod Folders
 pub mod Fronts
 pub mod Keeping
 pub mod Overlay
+pub mod ReadingOn
 pub mod Rebuilt
 pub mod Replaying
 pub mod Room

@@ -3,8 +3,10 @@ pub mod Crash
 pub mod Crashed
 pub mod Disk
 pub mod Faults
+pub mod Folder
 pub mod Held
 pub mod Kept
+pub mod Known
 pub mod Laws
 pub mod Memory
 pub mod Past

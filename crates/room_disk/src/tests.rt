@@ -1,19 +1,12 @@
 ghost use Rattle.std.specs.Prelude.{◌<◌};
 
 use super::*;
-use room_base::Name;
 use std::alloc::Global;
-use std::fs;
-use std::fs::File;
 use std::process::Abort;
-use std::rt::Files;
 use std::test::Fail;
 
 /// The file that the tests write, cartridge 1.
 const FILE: u32 = 2;
-
-/// The folder that a test makes, where it runs, and removes.
-const FOLDER: &str = "room_disk_test_folder";
 
 #[test]
 fn calls(rt: HostRuntime) -> Result<(), Fail> {
@@ -163,54 +156,4 @@ fn crashes(rt: HostRuntime) -> Result<(), Fail> {
         &regrown,
         [&[1, 0, 0, 5], &[1, 255, 255, 255], &[1, 0, 0]],
     )
-}
-
-#[test]
-fn folder(rt: HostRuntime) -> Result<(), Fail> {
-    if fs::metadata(&rt, FOLDER).is_ok() {
-        fs::remove_dir_all(&rt, FOLDER)?;
-    }
-    fs::create_dir(&rt, FOLDER)?;
-    in_folder(&rt)?;
-    fs::remove_dir_all(&rt, FOLDER)?;
-    Ok(())
-}
-
-fn in_folder<R: Abort + AllocGlobal + Files<File = File>>(rt: &R) -> Result<(), Fail> {
-    let mut store = FolderStore::new(
-        rt,
-        rt.alloc(),
-        Name::read(rt.alloc(), FOLDER.as_bytes(), 64)?,
-    );
-    assert_eq!(rt; store.len(0)?, 0);
-    store.sync(0)?;
-    assert!(rt;
-        fs::metadata(rt, "room_disk_test_folder/journal.0").is_err(),
-        "it isn't made"
-    );
-    store.write_at(257, 2, &[1, 2, 3])?;
-    store.write_at(257, 8, &[])?;
-    store.sync(257)?;
-    assert_eq!(rt;
-        fs::metadata(rt, "room_disk_test_folder/cart.256")?.len(),
-        8
-    );
-    store.write_at(1, 0, &[7; 5])?;
-    store.cut(1, 4)?;
-    assert_eq!(rt;
-        fs::metadata(rt, "room_disk_test_folder/journal.1")?.len(),
-        4
-    );
-    let mut into = [9; 8];
-    assert_eq!(rt; store.read_at(257, 1, &mut into)?, 7);
-    assert_eq!(rt; into, [0, 1, 2, 3, 0, 0, 0, 9]);
-    assert_eq!(rt; store.read_at(257, u64::MAX, &mut into)?, 0);
-    assert!(rt;
-        store
-            .write_at(257, 9_223_372_036_854_775_807, &[1])
-            .is_err(),
-        "past the last place"
-    );
-    assert!(rt; store.len(258).is_err(), "no such file");
-    Ok(())
 }

@@ -1,0 +1,131 @@
+use super::*;
+use room_base::Name;
+use std::fs;
+use std::fs::File;
+use std::process::Abort;
+use std::rt::Files;
+use std::test::Fail;
+
+/// The folder that a test makes, where it runs, and removes.
+const FOLDER: &str = "room_disk_test_folder";
+
+#[test]
+fn folder(rt: HostRuntime) -> Result<(), Fail> {
+    if fs::metadata(&rt, FOLDER).is_ok() {
+        fs::remove_dir_all(&rt, FOLDER)?;
+    }
+    fs::create_dir(&rt, FOLDER)?;
+    in_folder(&rt)?;
+    locks(&rt)?;
+    fs::remove_dir_all(&rt, FOLDER)?;
+    Ok(())
+}
+
+fn in_folder<R: Abort + AllocGlobal + Files<File = File>>(rt: &R) -> Result<(), Fail> {
+    let mut store = FolderStore::new(
+        rt,
+        rt.alloc(),
+        Name::read(rt.alloc(), FOLDER.as_bytes(), 64)?,
+    );
+    assert_eq!(rt; store.len(0)?, 0);
+    store.sync(0)?;
+    assert!(rt;
+        fs::metadata(rt, "room_disk_test_folder/journal.0").is_err(),
+        "it isn't made"
+    );
+    store.write_at(257, 2, &[1, 2, 3])?;
+    store.write_at(257, 8, &[])?;
+    store.sync(257)?;
+    assert_eq!(rt;
+        fs::metadata(rt, "room_disk_test_folder/cart.256")?.len(),
+        8
+    );
+    store.write_at(1, 0, &[7; 5])?;
+    store.cut(1, 4)?;
+    assert_eq!(rt;
+        fs::metadata(rt, "room_disk_test_folder/journal.1")?.len(),
+        4
+    );
+    let mut into = [9; 8];
+    assert_eq!(rt; store.read_at(257, 1, &mut into)?, 7);
+    assert_eq!(rt; into, [0, 1, 2, 3, 0, 0, 0, 9]);
+    assert_eq!(rt; store.read_at(257, u64::MAX, &mut into)?, 0);
+    assert!(rt;
+        store
+            .write_at(257, 9_223_372_036_854_775_807, &[1])
+            .is_err(),
+        "past the last place"
+    );
+    assert!(rt; store.len(258).is_err(), "no such file");
+    Ok(())
+}
+
+fn store_in<'a, R: AllocGlobal + Files<File = File>>(
+    rt: &'a R,
+    folder: &str,
+) -> Result<FolderStore<SystemFolder<&'a R>>, Fail> {
+    let name = Name::read(rt.alloc(), folder.as_bytes(), 64)?;
+    Ok(FolderStore::new(rt, rt.alloc(), name))
+}
+
+#[test]
+fn no_folder(rt: HostRuntime) -> Result<(), Fail> {
+    let mut store = store_in(&rt, "room_disk_no_folder")?;
+    let mut into = [9; 8];
+    assert!(rt; store.len(2).is_err(), "a length");
+    assert!(rt; store.read_at(2, 0, &mut into).is_err(), "a read");
+    assert!(rt; store.write_at(2, 0, &[1]).is_err(), "a write");
+    assert!(rt; store.cut(2, 0).is_err(), "a cut");
+    assert!(rt; store.sync(2).is_err(), "a sync");
+    Ok(())
+}
+
+fn locks<R: Abort + AllocGlobal + Files<File = File>>(rt: &R) -> Result<(), Fail> {
+    let first = FolderLock::take(rt, FOLDER, Access::Reads)?;
+    let second = FolderLock::take(rt, FOLDER, Access::Reads)?;
+    assert!(rt;
+        FolderLock::take(rt, FOLDER, Access::Writes).is_err(),
+        "two read"
+    );
+    drop(first);
+    drop(second);
+    let third = FolderLock::take(rt, FOLDER, Access::Writes)?;
+    assert!(rt;
+        FolderLock::take(rt, FOLDER, Access::Reads).is_err(),
+        "one writes"
+    );
+    drop(third);
+    assert!(rt;
+        FolderLock::take(rt, "room_disk_no_folder", Access::Reads).is_err(),
+        "none"
+    );
+    Ok(())
+}
+
+/// Calls on a folder in memory, of which the 9th, the 12th and the 14th fail: a read, a write and a
+/// sync of the file's bytes.
+#[test]
+fn in_memory(rt: HostRuntime) -> Result<(), Fail> {
+    let folder = MemFolder::new(rt.alloc(), vec![in rt.alloc(); 9, 12, 14]?);
+    let mut store = FolderStore::over(rt.alloc(), folder);
+    let mut into = [9; 8];
+    store.write_at(2, 0, &[1, 2, 3, 4])?;
+    store.sync(2)?;
+    assert_eq!(rt; store.len(2)?, 4);
+    assert_eq!(rt; store.read_at(2, 0, &mut into)?, 4);
+    assert_eq!(rt; into, [1, 2, 3, 4, 9, 9, 9, 9]);
+    assert!(rt; store.read_at(2, 0, &mut into).is_err(), "a read fails");
+    assert_eq!(rt; store.read_at(2, 1, &mut into)?, 3);
+    assert!(rt; store.write_at(2, 4, &[5]).is_err(), "a write fails");
+    store.write_at(2, 4, &[5])?;
+    assert!(rt; store.sync(2).is_err(), "a sync fails");
+    assert!(rt; store.sync(2).is_err(), "a later sync");
+    assert!(rt; store.len(2).is_err(), "a later length");
+    assert!(rt; store.write_at(2, 4, &[5]).is_err(), "a later write");
+    store.write_at(3, 2, &[])?;
+    store.sync(3)?;
+    assert_eq!(rt; store.len(3)?, 2, "another file");
+    assert_eq!(rt; store.len(4)?, 0, "a file that isn't there");
+    store.sync(4)?;
+    Ok(())
+}
