@@ -1,5 +1,5 @@
 use super::*;
-use room_base::Name;
+use room_base::{Failed, Name};
 use std::fs;
 use std::fs::File;
 use std::process::Abort;
@@ -27,36 +27,34 @@ fn in_folder<R: Abort + AllocGlobal + Files<File = File>>(rt: &R) -> Result<(), 
         rt.alloc(),
         Name::read(rt.alloc(), FOLDER.as_bytes(), 64)?,
     );
-    assert_eq!(rt; store.len(0)?, 0);
-    store.sync(0)?;
+    assert_eq!(rt; len(&mut store, 0)?, 0);
+    sync(&mut store, 0)?;
     assert!(rt;
         fs::metadata(rt, "room_disk_test_folder/journal.0").is_err(),
         "it isn't made"
     );
-    store.write_at(257, 2, &[1, 2, 3])?;
-    store.write_at(257, 8, &[])?;
-    store.sync(257)?;
+    write(&mut store, 257, 2, &[1, 2, 3])?;
+    write(&mut store, 257, 8, &[])?;
+    sync(&mut store, 257)?;
     assert_eq!(rt;
         fs::metadata(rt, "room_disk_test_folder/cart.256")?.len(),
         8
     );
-    store.write_at(1, 0, &[7; 5])?;
+    write(&mut store, 1, 0, &[7; 5])?;
     store.cut(1, 4)?;
     assert_eq!(rt;
         fs::metadata(rt, "room_disk_test_folder/journal.1")?.len(),
         4
     );
     let mut into = [9; 8];
-    assert_eq!(rt; store.read_at(257, 1, &mut into)?, 7);
+    assert_eq!(rt; read(&mut store, 257, 1, &mut into)?, 7);
     assert_eq!(rt; into, [0, 1, 2, 3, 0, 0, 0, 9]);
-    assert_eq!(rt; store.read_at(257, u64::MAX, &mut into)?, 0);
+    assert_eq!(rt; read(&mut store, 257, u64::MAX, &mut into)?, 0);
     assert!(rt;
-        store
-            .write_at(257, 9_223_372_036_854_775_807, &[1])
-            .is_err(),
+        write(&mut store, 257, 9_223_372_036_854_775_807, &[1]).is_err(),
         "past the last place"
     );
-    assert!(rt; store.len(258).is_err(), "no such file");
+    assert!(rt; len(&mut store, 258).is_err(), "no such file");
     Ok(())
 }
 
@@ -72,11 +70,10 @@ fn store_in<'a, R: AllocGlobal + Files<File = File>>(
 fn no_folder(rt: HostRuntime) -> Result<(), Fail> {
     let mut store = store_in(&rt, "room_disk_no_folder")?;
     let mut into = [9; 8];
-    assert!(rt; store.len(2).is_err(), "a length");
-    assert!(rt; store.read_at(2, 0, &mut into).is_err(), "a read");
-    assert!(rt; store.write_at(2, 0, &[1]).is_err(), "a write");
-    assert!(rt; store.cut(2, 0).is_err(), "a cut");
-    assert!(rt; store.sync(2).is_err(), "a sync");
+    assert!(rt; len(&mut store, 2).is_err(), "a length");
+    assert!(rt; read(&mut store, 2, 0, &mut into).is_err(), "a read");
+    assert!(rt; write(&mut store, 2, 0, &[1]).is_err(), "a write");
+    assert!(rt; sync(&mut store, 2).is_err(), "a sync");
     Ok(())
 }
 
@@ -109,23 +106,39 @@ fn in_memory(rt: HostRuntime) -> Result<(), Fail> {
     let folder = MemFolder::new(rt.alloc(), vec![in rt.alloc(); 9, 12, 14]?);
     let mut store = FolderStore::over(rt.alloc(), folder);
     let mut into = [9; 8];
-    store.write_at(2, 0, &[1, 2, 3, 4])?;
-    store.sync(2)?;
-    assert_eq!(rt; store.len(2)?, 4);
-    assert_eq!(rt; store.read_at(2, 0, &mut into)?, 4);
+    write(&mut store, 2, 0, &[1, 2, 3, 4])?;
+    sync(&mut store, 2)?;
+    assert_eq!(rt; len(&mut store, 2)?, 4);
+    assert_eq!(rt; read(&mut store, 2, 0, &mut into)?, 4);
     assert_eq!(rt; into, [1, 2, 3, 4, 9, 9, 9, 9]);
-    assert!(rt; store.read_at(2, 0, &mut into).is_err(), "a read fails");
-    assert_eq!(rt; store.read_at(2, 1, &mut into)?, 3);
-    assert!(rt; store.write_at(2, 4, &[5]).is_err(), "a write fails");
-    store.write_at(2, 4, &[5])?;
-    assert!(rt; store.sync(2).is_err(), "a sync fails");
-    assert!(rt; store.sync(2).is_err(), "a later sync");
-    assert!(rt; store.len(2).is_err(), "a later length");
-    assert!(rt; store.write_at(2, 4, &[5]).is_err(), "a later write");
-    store.write_at(3, 2, &[])?;
-    store.sync(3)?;
-    assert_eq!(rt; store.len(3)?, 2, "another file");
-    assert_eq!(rt; store.len(4)?, 0, "a file that isn't there");
-    store.sync(4)?;
+    assert!(rt; read(&mut store, 2, 0, &mut into).is_err(), "a read fails");
+    assert_eq!(rt; read(&mut store, 2, 1, &mut into)?, 3);
+    assert!(rt; write(&mut store, 2, 4, &[5]).is_err(), "a write fails");
+    write(&mut store, 2, 4, &[5])?;
+    assert!(rt; sync(&mut store, 2).is_err(), "a sync fails");
+    assert!(rt; sync(&mut store, 2).is_err(), "a later sync");
+    assert!(rt; len(&mut store, 2).is_err(), "a later length");
+    assert!(rt; write(&mut store, 2, 4, &[5]).is_err(), "a later write");
+    write(&mut store, 3, 2, &[])?;
+    sync(&mut store, 3)?;
+    assert_eq!(rt; len(&mut store, 3)?, 2, "another file");
+    assert_eq!(rt; len(&mut store, 4)?, 0, "a file that isn't there");
+    sync(&mut store, 4)?;
     Ok(())
+}
+
+fn len<D: Store>(store: &mut D, file: u32) -> Result<u64, Failed> {
+    store.len(file)
+}
+
+fn read<D: Store>(store: &mut D, file: u32, at: u64, into: &mut [u8]) -> Result<u64, Failed> {
+    store.read_at(file, at, into)
+}
+
+fn write<D: Store>(store: &mut D, file: u32, at: u64, bytes: &[u8]) -> Result<(), Failed> {
+    store.write_at(file, at, bytes)
+}
+
+fn sync<D: Store>(store: &mut D, file: u32) -> Result<(), Failed> {
+    store.sync(file)
 }

@@ -116,7 +116,8 @@ impl<F: Folder> KnownFolder<F> {
 
     // The index of the file, which is open for writing. It is made where the folder hasn't it.
     fn find_for_writing(&mut self, file: u32) -> Result<usize, Failed>
-        ensures quiet { Told F.tells (Quiet (F.view self.old.folder).disk (F.view self.new.folder).disk) }
+        ensures quiet { Told F.tells
+            (Quiet (F.view self.old.folder).disk (F.view self.new.folder).disk) }
         ensures lost { KeepsLost self.old.states self.new.states }
         ensures fails { IsLost self.old.states file → IsErr result }
         ensures named { OnOk result (file < 258) }
@@ -137,11 +138,13 @@ impl<F: Folder> KnownFolder<F> {
     fn open_for_writing(&mut self, file: u32, index: usize) -> Result<(), Failed>
         requires named { file < 258 }
         requires open { index < length self.old.opened.items }
-        requires file { (other : _) → (slice_index_or self.old.opened.items index other).file ≡ file }
+        requires file { (other : _)
+            → (slice_index_or self.old.opened.items index other).file ≡ file }
         ensures kept { Told F.tells (KeepsFiles (F.view self.old.folder) (F.view self.new.folder)) }
         ensures states { self.new.states ≡ self.old.states }
         ensures open { index < length self.new.opened.items }
-        ensures file { (other : _) → (slice_index_or self.new.opened.items index other).file ≡ file }
+        ensures file { (other : _)
+            → (slice_index_or self.new.opened.items index other).file ≡ file }
     {
         if self.opened[index].writes {
             return Ok(());
@@ -162,7 +165,8 @@ impl<F: Folder> KnownFolder<F> {
     fn make(&mut self, file: u32) -> Result<usize, Failed>
         requires named { file < 258 }
         requires absent { IsKnownAbsent self.old.states file }
-        ensures quiet { Told F.tells (Quiet (F.view self.old.folder).disk (F.view self.new.folder).disk) }
+        ensures quiet { Told F.tells
+            (Quiet (F.view self.old.folder).disk (F.view self.new.folder).disk) }
         ensures lost { KeepsLost self.old.states self.new.states }
         ensures found { IfOk result (λ index. (index < length self.new.opened.items)
             × (IsFree self.new.states file)
@@ -239,7 +243,8 @@ impl<F: Folder> KnownFolder<F> {
     fn lengthen(&mut self, file: u32, index: usize, to: u64) -> Result<(), Failed>
         requires open { index < length self.old.opened.items }
         requires free { IsFree self.old.states file }
-        requires file { (other : _) → (slice_index_or self.old.opened.items index other).file ≡ file }
+        requires file { (other : _)
+            → (slice_index_or self.old.opened.items index other).file ≡ file }
         ensures states { self.new.states ≡ self.old.states }
         ensures written { Told F.tells (OnOk result ((F.view self.new.folder).disk.reads file
             ≡ overlaid to [] ((F.view self.old.folder).disk.reads file))) }

@@ -11,8 +11,8 @@ use crate::store::Store;
 use room_base::{CallCount, Failed};
 use std::alloc::Global;
 
-/// A folder in memory, which tells its contents. Its listed calls fail. A read gives half of what is
-/// asked for. What was synced of a file is settled only once the names are synced too.
+/// A folder in memory, which tells its contents. Its listed calls fail. A read gives half of what
+/// is asked for. What was synced of a file is settled only once the names are synced too.
 #[derive(Drop)]
 pub struct MemFolder {
     store: MemStore,

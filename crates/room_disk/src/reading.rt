@@ -46,7 +46,8 @@ fn read_some<F: Folder>(
     ensures within { IfOk result (λ count. count ≤ length into.old) }
     ensures kept { Told F.tells (KeepsFiles (F.view folder.old) (F.view folder.new)) }
     ensures given { Told F.tells (IfOk result (λ count.
-        ReadsSome ((F.view folder.old).disk.reads (F.number file.now)) at into.old into.new count)) }
+        ReadsSome ((F.view folder.old).disk.reads (F.number file.now)) at
+        into.old into.new count)) }
 {
     for _ in 0..TRIES {
         if let Some(count) = folder.read_at(file, at, into)? {
