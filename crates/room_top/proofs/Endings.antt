@@ -28,11 +28,20 @@ so_of P meant answer (inr is) then short = subst P (sym is) short
 
 -- ---- put
 
+-- the input was taken whole
+pub takes_all : (before now : World) (bytes : List ℕ) → HasSize bytes → Told before.input.tells ((bytes ≡ before.input.left) × (now.input.left ≡ []))
+    → TakesAll before now
+takes_all before now bytes size judged = λ told. (subst HasSize (judged told).0 size, (judged told).1)
+
+-- a count rose behind calls that lower none
+pub rose_behind : (before mid now : ℕ) → before ≤ mid → Rose mid now → Rose before now
+rose_behind before mid now later rose = omega (arith, later, rose)
+
 short_put : (cart : ℕ) (before now : World) → OnlyTakes before now → PutEnds cart before now status.Memory
 short_put cart before now rest = (rest.out, rest.disk, λ told. inl (rest.clock told))
 
 input_meant : (cart : ℕ) (before now : World) (fault : InputFault) → OnlyTakes before now
-    → (Err {T = Unit {0}} fault ≡ Err input_faults.Failed → Rose before.input.faults now.input.faults)
+    → (fault ≡ input_faults.Failed → Rose before.input.faults now.input.faults)
     → Told before.input.tells (JudgesInput before.input.left now.input.left fault) → PutEnds cart before now (input_status fault)
 input_meant cart before now input_faults.Memory rest cause judged = short_put cart before now rest
 input_meant cart before now input_faults.Failed rest cause judged = (cause refl, rest)
@@ -41,15 +50,15 @@ input_meant cart before now input_faults.TooLong rest cause judged = (refl, rest
 
 -- the input wasn't taken as a file
 pub input_ends : (cart : ℕ) (before now : World) (fault : InputFault) (answer : Status) → OnlyTakes before now
-    → (Err {T = Unit {0}} fault ≡ Err input_faults.Failed → Rose before.input.faults now.input.faults)
+    → (fault ≡ input_faults.Failed → Rose before.input.faults now.input.faults)
     → Told before.input.tells (JudgesInput before.input.left now.input.left fault) → IsOrMemory (input_status fault) answer
     → PutEnds cart before now answer
 input_ends cart before now fault answer rest cause judged is =
     so_of (PutEnds cart before now) (input_status fault) answer is (input_meant cart before now fault rest cause judged) (short_put cart before now rest)
 
 site_meant : (cart : ℕ) (before now : World) (bytes : List ℕ) (fault : SiteFault) → OnlyTakes before now → TakesAll before now → AreInput before bytes
-    → (Err {T = Unit {0}} fault ≡ Err site_faults.DiskFailed → DiskRose cart before now)
-    → (Err {T = Unit {0}} fault ≡ Err site_faults.ClockFailed → Rose before.clock.faults now.clock.faults)
+    → (fault ≡ site_faults.DiskFailed → DiskRose cart before now)
+    → (fault ≡ site_faults.ClockFailed → Rose before.clock.faults now.clock.faults)
     → OnCartridge cart before (λ disk. JudgesSite (length bytes) disk fault) → WritesOn cart before now
     → PutEnds cart before now (site_status cart fault)
 site_meant cart before now bytes site_faults.DiskFailed rest taken are disk clock judged writes = (disk refl, writes, rest.out)
@@ -72,8 +81,8 @@ untouched cart before now bytes taken asked are stays = record {
 
 -- no site was found
 pub site_ends : (cart : ℕ) (before now : World) (bytes : List ℕ) (fault : SiteFault) (answer : Status) → OnlyTakes before now → TakesAll before now → AreInput before bytes
-    → (Err {T = Unit {0}} fault ≡ Err site_faults.DiskFailed → DiskRose cart before now)
-    → (Err {T = Unit {0}} fault ≡ Err site_faults.ClockFailed → Rose before.clock.faults now.clock.faults)
+    → (fault ≡ site_faults.DiskFailed → DiskRose cart before now)
+    → (fault ≡ site_faults.ClockFailed → Rose before.clock.faults now.clock.faults)
     → OnCartridge cart before (λ disk. JudgesSite (length bytes) disk fault) → IsOrMemory (site_status cart fault) answer
     → PutEnds cart before now answer
 site_ends cart before now bytes fault answer rest taken are disk clock judged is =
@@ -96,11 +105,11 @@ may_ask cart before now (sites.Next volume number) taken asked at = λ told. inl
 -- storing a file behind calls that add no image
 pub writes_behind : (cart : ℕ) (before now : World) (mid : DiskView) (bytes : List ℕ) (site : Site) → TakesAll before now → MayAsk cart before now → AreInput before bytes
     → Told before.disk.tells (Quiet before.disk mid) → Told before.disk.tells (Settled mid (cart_file cart))
-    → OnCartridge cart before (λ disk. IsSite before.clock cart disk site) → Told before.disk.tells (Others (cart_file cart) mid now.disk)
-    → Told before.disk.tells ((clock : ClockView) → IsSite clock cart (mid.reads (cart_file cart)) site → Settled mid (cart_file cart)
+    → OnCartridge cart before (λ disk. IsSite before.clock cart disk site) → mid.tells ≡ before.disk.tells → Told mid.tells (Others (cart_file cart) mid now.disk)
+    → Told mid.tells ((clock : ClockView) → IsSite clock cart (mid.reads (cart_file cart)) site → Settled mid (cart_file cart)
     → Leaves mid now.disk (OnFile (cart_file cart) (IsPut clock cart bytes (mid.reads (cart_file cart))) mid))
     → WritesOn cart before now
-writes_behind cart before now mid bytes site taken asked are quiet settled at others run =
+writes_behind cart before now mid bytes site taken asked are quiet settled at same others run =
     let file = cart_file cart in
     let At : List ℕ → Type 0 = λ (disk : List ℕ). IsSite before.clock cart disk site in
     let P : List ℕ → Type 0 = IsPut before.clock cart bytes (mid.reads file) in
@@ -108,13 +117,13 @@ writes_behind cart before now mid bytes site taken asked are quiet settled at ot
     record {
       taken = taken;
       asked = asked;
-      others = λ told. others_then file before.disk mid now.disk (others_quiet file before.disk mid (quiet told)) (others told);
+      others = λ told. others_then file before.disk mid now.disk (others_quiet file before.disk mid (quiet told)) (others (rw same told));
       moments = λ told. (
         bytes,
         are,
         leaves_then before.disk mid now.disk (OnFile file Q before.disk) (leaves_none before.disk mid (OnFile file Q before.disk) (quiet told))
             (leaves_weaker mid now.disk (OnFile file P mid) (OnFile file Q before.disk)
-            (run told before.clock (subst At (sym ((quiet told).reads file)) (at told)) (settled told))
+            (run (rw same told) before.clock (subst At (sym ((quiet told).reads file)) (at told)) (settled told))
             (on_file_then file P Q before.disk mid (others_quiet file before.disk mid (quiet told))
             (λ disk put. let Before : List ℕ → Type 0 = λ (old : List ℕ). IsPut before.clock cart bytes old disk in subst Before ((quiet told).reads file) put))),
       );
@@ -122,24 +131,24 @@ writes_behind cart before now mid bytes site taken asked are quiet settled at ot
 
 -- the file that was stored behind calls that add no image
 pub keeps_behind : (cart number : ℕ) (before now : World) (mid : DiskView) (bytes : List ℕ) (site : Site) → AreInput before bytes
-    → Told before.disk.tells (Quiet before.disk mid) → OnCartridge cart before (λ disk. IsSite before.clock cart disk site)
-    → Told before.disk.tells ((clock : ClockView) → IsSite clock cart (mid.reads (cart_file cart)) site
+    → Told before.disk.tells (Quiet before.disk mid) → OnCartridge cart before (λ disk. IsSite before.clock cart disk site) → mid.tells ≡ before.disk.tells
+    → Told mid.tells ((clock : ClockView) → IsSite clock cart (mid.reads (cart_file cart)) site
     → HasOneFileMore clock cart bytes (mid.reads (cart_file cart)) number (now.disk.reads (cart_file cart)))
-    → Told before.disk.tells (Settled now.disk (cart_file cart)) → Keeps cart before now bytes number
-keeps_behind cart number before now mid bytes site are quiet at stored settled =
+    → Told mid.tells (Settled now.disk (cart_file cart)) → Keeps cart before now bytes number
+keeps_behind cart number before now mid bytes site are quiet at same stored settled =
     let file = cart_file cart in
     let At : List ℕ → Type 0 = λ (disk : List ℕ). IsSite before.clock cart disk site in
     record {
       input = are;
       stands = λ told. (let Before : List ℕ → Type 0 = λ (old : List ℕ). HasOneFileMore before.clock cart bytes old number (now.disk.reads file) in
-          subst Before ((quiet told).reads file) (stored told before.clock (subst At (sym ((quiet told).reads file)) (at told))));
-      settled = settled;
+          subst Before ((quiet told).reads file) (stored (rw same told) before.clock (subst At (sym ((quiet told).reads file)) (at told))));
+      settled = λ told. settled (rw same told);
     }
 
 -- ---- get
 
 file_meant : (cart : Cart) (number : ℕ) (before now : World) (fault : FileFault) → Stays before now
-    → (Err {T = Unit {0}} fault ≡ Err file_faults.Failed → DiskRose cart.0 before now)
+    → (fault ≡ file_faults.Failed → DiskRose cart.0 before now)
     → OnCartridge cart.0 before (λ disk. JudgesFile number disk fault) → GetEnds cart.0 number before now (file_status cart number fault)
 file_meant cart number before now file_faults.Memory stays cause judged = stays
 file_meant cart number before now file_faults.Failed stays cause judged = (cause refl, stays)
@@ -150,7 +159,7 @@ file_meant cart number before now file_faults.NoFile stays cause judged = ((refl
 
 -- the file wasn't read
 pub file_ends : (cart : Cart) (number : ℕ) (before now : World) (fault : FileFault) (answer : Status) → Stays before now
-    → (Err {T = Unit {0}} fault ≡ Err file_faults.Failed → DiskRose cart.0 before now)
+    → (fault ≡ file_faults.Failed → DiskRose cart.0 before now)
     → OnCartridge cart.0 before (λ disk. JudgesFile number disk fault) → IsOrMemory (file_status cart number fault) answer
     → GetEnds cart.0 number before now answer
 file_ends cart number before now fault answer stays cause judged is =
