@@ -75,8 +75,12 @@ untouched cart before now bytes taken asked are stays = record {
   taken = taken;
   asked = asked;
   others = λ told. others_quiet (cart_file cart) before.disk now.disk (stays told);
-  moments = λ told. (bytes, are, leaves_none before.disk now.disk
-  (OnFile (cart_file cart) (IsPut before.clock cart bytes (before.disk.reads (cart_file cart))) before.disk) (stays told));
+  moments = λ told. (
+    bytes,
+    are,
+    leaves_none before.disk now.disk
+        (OnFile (cart_file cart) (IsPut before.clock cart bytes (before.disk.reads (cart_file cart))) before.disk) (stays told),
+  );
 }
 
 -- no site was found

@@ -14,8 +14,8 @@ ghost use Rattle.room_top.specs.declared.get.DataFault.TheVariants as data_fault
 ghost use Rattle.room_top.specs.declared.get.FileFault.TheVariants as file_faults;
 
 use crate::Status;
-use crate::raw::CHUNK_SIZE;
 use crate::fault_status::file_status_of;
+use crate::raw::CHUNK_SIZE;
 use room_base::{Cart, Sink, Volid, write_all};
 use room_disk::Store;
 use std::alloc::Global;
@@ -32,14 +32,9 @@ pub enum FileFault {
     Unlabelled,
     /// The label, volume 0 and block 0, a mark, or a data block of the file isn't valid, or isn't
     /// there.
-    Damaged {
-        volid: Volid,
-        block: u64,
-    },
+    Damaged { volid: Volid, block: u64 },
     /// The label isn't raw.
-    Strange {
-        volid: Volid,
-    },
+    Strange { volid: Volid },
     /// There is no file with this number.
     NoFile,
 }

@@ -4,8 +4,8 @@ ghost use Rattle.room_top.specs.Put.{kept_line};
 ghost use Rattle.room_top.specs.Run.{world, Later, PutEnds};
 
 use crate::Status;
-use crate::input::take_input;
 use crate::fault_status::{input_status_of, site_status_of};
+use crate::input::take_input;
 use crate::site::find_site;
 use crate::store::{StoreFault, store_file};
 use room_base::{Cart, Clock, Sink, Source, write_all};

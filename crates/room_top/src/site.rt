@@ -34,10 +34,7 @@ pub enum SiteFault {
     DiskFailed,
     ClockFailed,
     /// The label, volume 0 and block 0, or a mark isn't valid, or isn't there.
-    Damaged {
-        volid: Volid,
-        block: u64,
-    },
+    Damaged { volid: Volid, block: u64 },
     /// The cartridge has a label that isn't raw.
     Occupied,
     /// There is no room for the file.

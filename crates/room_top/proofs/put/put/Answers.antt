@@ -37,8 +37,7 @@ returns-in-Err-Failed-clause-ends g c =
     let writes : WritesOn cart before now =
     writes_behind cart before now mid bytes site taken (may_ask cart before now site taken found.asked found.judged) are
     found.quiet found.settled found.judged found.disk_tells stored.others stored.moments in
-    let file = cart_file cart in
-    (
+    let file = cart_file cart in (
       rose_behind (before.disk.faults file) (mid.faults file) (now.disk.faults file) (found.disk_cause.later file)
           (stored.cause.cause (ap Err c.in-Err-Failed.field-0-is)),
       writes,
@@ -90,8 +89,7 @@ returns-clause-ends g c =
     let line : c.as_bytes.result.now ≡ kept_line (length bytes) (site_number site) cart =
     c.as_bytes.ensures.value ∙ c.in-Ok-kept_line_text.ensures ∙ ap (λ count. kept_line count c.number.result cart) (size ∙ ap length (sym c.deref.ensures.value))
     ∙ ap (λ number. kept_line (length bytes) number cart) c.number.ensures in
-    let Printed : List ℕ → Type 0 = AddsFront before.out.written now.out.written in
-    (
+    let Printed : List ℕ → Type 0 = AddsFront before.out.written now.out.written in (
       c.in-Err-write_all.ensures.cause.cause,
       writes,
       (bytes, (site_number site, kept, λ told. subst Printed line (c.in-Err-write_all.ensures.written told))),
