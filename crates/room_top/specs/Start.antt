@@ -80,8 +80,8 @@ Serves help version (Err fault) old new answer = (answer ≡ fault) × (new ≡ 
 
 -- How the program ends with these words: what they ask for is done on the output, and where errors
 -- go the status is reported.
-pub record Starts (help version : List ℕ) (words : List (List ℕ)) (out out_now err err_now : SinkView)
-    (answer : Status) : Type 0 where
+pub record Starts (help version : List ℕ) (words : List (List ℕ))
+    (out out_now err err_now : SinkView) (answer : Status) : Type 0 where
   pub request : Result Request Status
   pub asked : AsksFor words request
   pub served : Serves help version request out out_now answer

@@ -14,6 +14,7 @@ use itoa::Buffer;
 use room_base::{Cart, Memory, Name, Refusal};
 use std::alloc::Global;
 
+/// The status of a `put` whose input isn't taken.
 pub fn input_status_of(alloc: Global, fault: InputFault) -> Status
     ensures { IsOrMemory (input_status fault) result }
 {
@@ -30,6 +31,7 @@ pub fn input_status_of(alloc: Global, fault: InputFault) -> Status
     }
 }
 
+/// The status of a `put` whose file has no place.
 pub fn site_status_of(alloc: Global, cart: Cart, fault: SiteFault) -> Status
     ensures { IsOrMemory (site_status cart.0 fault) result }
 {
@@ -60,6 +62,7 @@ fn occupied(alloc: Global, cart: Cart) -> Status
     }
 }
 
+/// The status of a `get` whose file isn't read.
 pub fn file_status_of(alloc: Global, cart: Cart, number: u64, fault: FileFault) -> Status
     ensures { IsOrMemory (file_status cart number fault) result }
 {
