@@ -1,14 +1,13 @@
 -- How `put` and `get` end, by what their stages have answered.
-use Rattle.std.proofs.Common.{◌≡◌, ◌∙◌, ◌++◌, ℕ, ◌≤◌, List, [], length, Ok, Err, refl, sym, ap, subst, inl, inr, ◌⊎◌, arith}
-use Rattle.std.specs.Prelude.{IsTrue}
+use Rattle.std.proofs.Common.{◌≡◌, ◌∙◌, ◌++◌, ℕ, ◌≤◌, List, [], length, Ok, refl, sym, subst, inl, inr, ◌⊎◌, arith}
 use Rattle.room_base.specs.Faults.{Rose}
-use Rattle.room_base.specs.Outside.{SourceView, SinkView, ClockView, Told, AddsFront}
+use Rattle.room_base.specs.Outside.{ClockView, Told}
 use Rattle.room_base.specs.declared.numbers.Cart.{Cart}
 use Rattle.room_disk.specs.Disk.{DiskView, Quiet, Others, Settled, Leaves, OnFile}
-use Rattle.room_disk.proofs.Runs.{leaves_none, leaves_then, leaves_weaker, on_file_then, others_quiet, others_then, quiet_none}
+use Rattle.room_disk.proofs.Runs.{leaves_none, leaves_then, leaves_weaker, on_file_then, others_quiet, others_then}
 use Rattle.volume_store.specs.Writes.{cart_file}
-use Rattle.room_top.specs.Put.{HasSize, HasOneFileMore, IsPut, IsOccupied, IsSite, kept_line}
-use Rattle.room_top.specs.Run.{World, world, OnlyTakes, Stays, TakesAll, IsAsked, MayAsk, OnCartridge, AreInput, WritesOn, Keeps, PutEnds, GetEnds, OutStays, DiskStays, ClockStays, DiskRose}
+use Rattle.room_top.specs.Put.{HasSize, HasOneFileMore, IsPut, IsSite}
+use Rattle.room_top.specs.Run.{World, OnlyTakes, Stays, TakesAll, MayAsk, OnCartridge, AreInput, WritesOn, Keeps, PutEnds, GetEnds, DiskStays, DiskRose}
 use Rattle.room_top.specs.Stages.{IsOrMemory, JudgesInput, input_status, JudgesSite, SiteAsks, site_status, JudgesFile, file_status}
 use Rattle.room_top.specs.declared.get.FileFault.{FileFault}
 use Rattle.room_top.specs.declared.get.FileFault.TheVariants as file_faults

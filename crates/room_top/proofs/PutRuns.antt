@@ -1,5 +1,5 @@
 -- What storing a file on a raw cartridge leaves.
-use Rattle.std.proofs.Common.{◌≡◌, ◌∙◌, ◌+◌, ◌-◌, ◌≤◌, ℕ, List, [], length, Err, refl, sym, subst, inl, inr, arith}
+use Rattle.std.proofs.Common.{◌≡◌, ◌∙◌, ◌+◌, ◌-◌, ◌≤◌, ℕ, List, [], length, refl, inl, inr, arith}
 use Rattle.std.proofs.lemmas.Grind.{div_ceil_times}
 use Rattle.room_base.specs.Outside.{ClockView}
 use Rattle.volume_block.specs.Chunks.{ChunkText, all_chunks, JoinFrom}
@@ -8,9 +8,9 @@ use Rattle.chunk_mux.proofs.Joining.{packed_joins}
 use Rattle.chunk_mux.proofs.Numbers.{length-new}
 use Rattle.volume_block.specs.declared.label.Label.{Label}
 use Rattle.volume_store.specs.Committed.{CommittedFile, Committed}
-use Rattle.volume_store.specs.Writes.{cart_file, added_file, with_file, IsWholeOrAbsent}
+use Rattle.volume_store.specs.Writes.{added_file, with_file, IsWholeOrAbsent}
 use Rattle.room_top.specs.Raw.{IsRawCartridge, JoinTo}
-use Rattle.room_top.specs.Put.{HasOneFileMore, IsNewLabel, IsOccupied, IsPut, IsFirstFile, IsSite, IsSiteFor, HasRoom, blocks_for}
+use Rattle.room_top.specs.Put.{HasOneFileMore, IsNewLabel, IsOccupied, IsPut, IsFirstFile, IsSiteFor, HasRoom, blocks_for}
 use Rattle.room_top.specs.declared.site.Site.{Site}
 use Rattle.room_top.specs.declared.site.Site.TheVariants as sites
 

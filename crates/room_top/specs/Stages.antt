@@ -6,12 +6,11 @@ use Rattle.room_base.specs.Outside.{later_moments}
 use Rattle.room_base.specs.declared.numbers.Cart.{Cart}
 use Rattle.room_base.specs.declared.numbers.Moment.{Moment}
 use Rattle.room_base.specs.declared.refusal.Refusal.TheVariants as refusals
-use Rattle.volume_block.specs.Valid.{IsRaw}
 use Rattle.volume_block.specs.declared.label.Label.{Label}
 use Rattle.volume_store.specs.Committed.{block_at, IsDataPlace, Damaged, CommittedFile, Committed}
 use Rattle.volume_store.specs.Committed.{Unlabelled}
 use Rattle.volume_store.specs.declared.marks.FilePlace.{FilePlace}
-use Rattle.room_top.specs.Raw.{HasBytes, IsFileOn, IsFirstDamaged, IsDamagedIn}
+use Rattle.room_top.specs.Raw.{IsFileOn, IsFirstDamaged, IsDamagedIn}
 use Rattle.room_top.specs.Raw.{LacksFile, IsDamagedAt, IsStrange}
 use Rattle.room_top.specs.Put.{IsOccupied, IsFull}
 use Rattle.room_top.specs.declared.get.DataFault.{DataFault}
