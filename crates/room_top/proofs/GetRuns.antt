@@ -1,24 +1,22 @@
--- Reading the bytes of a file, chunk by chunk and block by block.
-use Rattle.std.proofs.Common.{◌≡◌, ℕ, suc, ◌+◌, ◌<◌, ◌≤◌, List, [], ◌∷◌, ◌++◌, length, map, take, drop, Some, None, Err, refl, sym, ap, subst, ◌∙◌, append_assoc, arith, inl, inr}
+-- Reading the bytes of a file, block by block.
+use Rattle.std.proofs.Common.{◌≡◌, ℕ, suc, ◌+◌, ◌<◌, ◌≤◌, List, [], ◌∷◌, ◌++◌, length, map, Err, refl, sym, ap, subst, ◌∙◌, append_assoc, arith, inl, inr}
 use Rattle.std.proofs.lemmas.List.{append-nil, length-append, length-map, map-append}
 use Rattle.std.proofs.lemmas.Grind.{flat_map-append}
 use Rattle.room_base.specs.Outside.{ClockView}
-use Rattle.volume_block.specs.Chunks.{ChunkText, chunk_text, chunks_text, all_chunks, JoinFrom}
-use Rattle.volume_block.specs.Valid.{HoldsChunks, ValidBlock}
-use Rattle.volume_block.specs.Places.{SplitsAt, IsChunkPlace, FindsFirst}
+use Rattle.volume_block.specs.Chunks.{ChunkText, chunks_text, all_chunks, joined}
+use Rattle.volume_block.specs.Valid.{HoldsChunks, ValidBlock, IsRaw}
 use Rattle.volume_block.specs.declared.block.Block.{Block}
 use Rattle.volume_block.specs.declared.block.Block.TheVariants as kinds
-use Rattle.volume_block.specs.declared.block.Chunk.{Chunk}
 use Rattle.volume_block.specs.declared.block.Reason.{Reason}
 use Rattle.volume_block.proofs.OneBlock.{one_block}
-use Rattle.volume_block.proofs.Lengths.{length-chunk_text}
+use Rattle.volume_block.proofs.Appending.{joined_bytes}
 use Rattle.volume_store.specs.Committed.{block_at, DataPlace, Whole, Damaged, IsDataPlace, AreDataPlaces, CommittedFile, Closed, FilesFrom, Contents, Unlabelled, BadLabel, Labelled}
 use Rattle.volume_store.proofs.OneContents.{one_contents}
 use Rattle.volume_store.specs.Reads.{IsBad}
 use Rattle.volume_block.specs.declared.label.Label.{Label}
-use Rattle.room_top.specs.Raw.{IsRaw, joined, HasBytes, IsFirstDamaged, IsFileOn, GivesFile}
+use Rattle.room_top.specs.Raw.{HasBytes, IsFirstDamaged, IsFileOn, GivesFile}
 use Rattle.room_top.specs.Put.{HadFiles, HasOneFileMore}
-use Rattle.room_top.specs.Stages.{DataCause, IsDataRead, GivesPlaces}
+use Rattle.room_top.specs.Stages.{IsDataRead, JudgesPlaces}
 use Rattle.room_top.specs.declared.get.DataFault.{DataFault}
 use Rattle.room_top.specs.declared.get.DataFault.TheVariants as faults
 
@@ -33,87 +31,6 @@ mark_is_damaged disk volid number count valid = λ chunks held.
 
 pub bad_is_damaged : (disk : List ℕ) (volid number : ℕ) (why : Reason) → IsBad (block_at disk number) volid number why → IsDataPlace disk volid number Damaged
 bad_is_damaged disk volid number why bad = λ chunks held. bad.invalid (kinds.Data (length (chunks_text chunks))) (chunks, held, refl)
-
--- ---- chunk by chunk
-
--- the bytes of the chunks before a place are appended
-pub record HasAppended (start bytes : List ℕ) (at : ℕ) (chunks : List ChunkText) : Type 0 where
-  pub before : List ChunkText
-  pub after : List ChunkText
-  pub split : chunks ≡ before ++ after
-  pub stands : at ≡ length (chunks_text before)
-  pub are : bytes ≡ start ++ joined before
-
-pub none_appended : (start : List ℕ) (chunks : List ChunkText) → HasAppended start start 0 chunks
-none_appended start chunks = record { before = []; after = chunks; split = refl; stands = refl; are = sym (append-nil start) }
-
-pub splits : (block start bytes : List ℕ) (volid number at : ℕ) (chunks : List ChunkText) → HoldsChunks block volid number chunks
-    → (so_far : HasAppended start bytes at chunks) → SplitsAt block volid number at so_far.before so_far.after
-splits block start bytes volid number at chunks held so_far =
-    let P : List ChunkText → Type 0 = λ (all : List ChunkText). HoldsChunks block volid number all in
-    record { holds = subst P so_far.split held; stands = so_far.stands }
-
-append_first : (block start bytes new : List ℕ) (at : ℕ) (chunks before after : List ChunkText) (found : Chunk) → chunks ≡ before ++ after
-    → at ≡ length (chunks_text before) → bytes ≡ start ++ joined before → FindsFirst block at after (Some found)
-    → new ≡ bytes ++ take found.length (drop found.start block) → HasAppended start new found.next chunks
-append_first block start bytes new at chunks before [] found split stands are finds added = absurd (cc finds)
-append_first block start bytes new at chunks before (chunk ∷ after) found split stands are finds added = record {
-  before = before ++ chunk ∷ [];
-  after = after;
-  split = split ∙ sym (append_assoc before (chunk ∷ []) after);
-  stands = finds.next ∙ omega (arith, stands, ap length (flat_map-append chunk_text before (chunk ∷ [])), length-append (chunks_text before) (chunks_text (chunk ∷ [])), ap length (append-nil (chunk_text chunk)), length-chunk_text chunk);
-  are = added ∙ ap (λ (t : List ℕ). bytes ++ t) finds.text ∙ ap (λ (t : List ℕ). t ++ chunk.bytes) are ∙ append_assoc start (joined before) chunk.bytes
-      ∙ ap (λ (t : List ℕ). start ++ (joined before ++ t)) (sym (append-nil chunk.bytes))
-      ∙ ap (λ (t : List ℕ). start ++ t) (sym (flat_map-append (λ (one : ChunkText). one.bytes) before (chunk ∷ [])));
-}
-
-pub append_more : (block start bytes new : List ℕ) (volid number at : ℕ) (chunks : List ChunkText) (found : Chunk) → HoldsChunks block volid number chunks
-    → HasAppended start bytes at chunks
-    → ((v n : ℕ) (before after : List ChunkText) → SplitsAt block v n at before after → FindsFirst block at after (Some found))
-    → new ≡ bytes ++ take found.length (drop found.start block) → HasAppended start new found.next chunks
-append_more block start bytes new volid number at chunks found held so_far finds added =
-    append_first block start bytes new at chunks so_far.before so_far.after found so_far.split so_far.stands so_far.are
-    (finds volid number so_far.before so_far.after (splits block start bytes volid number at chunks held so_far)) added
-
-append_last : (block start bytes : List ℕ) (at : ℕ) (chunks before after : List ChunkText) → chunks ≡ before ++ after → bytes ≡ start ++ joined before
-    → FindsFirst block at after None → bytes ≡ start ++ joined chunks
-append_last block start bytes at chunks before [] split are finds =
-    are ∙ ap (λ (all : List ChunkText). start ++ joined all) (sym (split ∙ append-nil before))
-append_last block start bytes at chunks before (chunk ∷ after) split are finds = absurd finds
-
-pub append_ends : (block start bytes : List ℕ) (volid number at : ℕ) (chunks : List ChunkText) → HoldsChunks block volid number chunks
-    → HasAppended start bytes at chunks
-    → ((v n : ℕ) (before after : List ChunkText) → SplitsAt block v n at before after → FindsFirst block at after None) → bytes ≡ start ++ joined chunks
-append_ends block start bytes volid number at chunks held so_far finds =
-    append_last block start bytes at chunks so_far.before so_far.after so_far.split so_far.are
-    (finds volid number so_far.before so_far.after (splits block start bytes volid number at chunks held so_far))
-
--- where a chunk that is found stands
-pub record IsInside (at : ℕ) (found : Chunk) : Type 0 where
-  pub goes_on : at < found.next
-  pub most : found.next ≤ 4040
-  pub from : 80 ≤ found.start
-  pub to : found.start + found.length ≡ found.next + 56
-
-inside_first : (block : List ℕ) (volid number at : ℕ) (before after : List ChunkText) (found : Chunk) → SplitsAt block volid number at before after
-    → FindsFirst block at after (Some found) → IsInside at found
-inside_first block volid number at before [] found split finds = absurd (cc finds)
-inside_first block volid number at before (chunk ∷ after) found split finds =
-    let long : length (chunks_text (before ++ chunk ∷ after)) ≡ length (chunks_text before) + (24 + length chunk.bytes + length (chunks_text after)) =
-    ap length (flat_map-append chunk_text before (chunk ∷ after)) ∙ length-append (chunks_text before) (chunks_text (chunk ∷ after))
-    ∙ omega (arith, length-append (chunk_text chunk) (chunks_text after), length-chunk_text chunk) in
-    record {
-      goes_on = omega (arith, finds.next);
-      most = omega (arith, finds.next, split.stands, long, split.holds.allowed.fit);
-      from = omega (arith, finds.start);
-      to = omega (arith, finds.next, finds.start, finds.size);
-    }
-
-pub inside : (block : List ℕ) (at : ℕ) (found : Chunk) → IsChunkPlace block at
-    → ((v n : ℕ) (before after : List ChunkText) → SplitsAt block v n at before after → FindsFirst block at after (Some found)) → IsInside at found
-inside block at found place finds =
-    inside_first block place.0 place.1.0 at place.1.1.0 place.1.1.1.0 found place.1.1.1.1
-    (finds place.0 place.1.0 place.1.1.0 place.1.1.1.0 place.1.1.1.1)
 
 -- ---- block by block
 
@@ -212,20 +129,14 @@ places_among disk volid mark end [] file after are =
 places_among disk volid mark end (first ∷ before) file after are =
     places_among disk volid (mark + length first.places + 1) end before file after are.3
 
--- ---- faults
+-- ---- what is said of a file
 
--- a fault whose count rose behind calls that lower none
-pub data_later : (T U : Type 0) (before mid now : ℕ) (fault : DataFault) → before ≤ mid → DataCause {T = T} mid now (Err fault) → DataCause {T = U} before now (Err fault)
-data_later T U before mid now faults.Memory later cause = tt
-data_later T U before mid now faults.Failed later cause = omega (arith, later, cause)
-data_later T U before mid now (faults.Damaged block) later cause = tt
-
-pub data_given : {T : Type 0} (bytes_of : T → List ℕ) (disk : List ℕ) (volid index : ℕ) (bytes block : List ℕ) (file : CommittedFile) (fault : DataFault)
+pub data_given : (disk : List ℕ) (volid index : ℕ) (bytes block : List ℕ) (file : CommittedFile) (fault : DataFault)
     → HasRead file.places bytes index → index < length file.places → AreDataPlaces disk volid (file.mark + 1) file.places
-    → IsDataRead disk volid (file.mark + 1 + index) block (Err fault) → GivesPlaces bytes_of file (Err fault)
-data_given bytes_of disk volid index bytes block file faults.Memory so_far within are read = tt
-data_given bytes_of disk volid index bytes block file faults.Failed so_far within are read = tt
-data_given bytes_of disk volid index bytes block file (faults.Damaged bad) so_far within are read =
+    → IsDataRead disk volid (file.mark + 1 + index) block (Err fault) → JudgesPlaces file fault
+data_given disk volid index bytes block file faults.Memory so_far within are read = tt
+data_given disk volid index bytes block file faults.Failed so_far within are read = tt
+data_given disk volid index bytes block file (faults.Damaged bad) so_far within are read =
     let P : ℕ → Type 0 = λ (number : ℕ). IsFirstDamaged file number in
     subst P (sym read.0) (damaged_first disk volid index bytes file so_far within are read.1)
 
@@ -235,11 +146,6 @@ pub places_of : (disk : List ℕ) (number : ℕ) (label : Label) (file : Committ
 places_of disk number label file on = places_among disk label.volid.0 1 on.mark on.before file on.after on.on.1.1
 
 -- ---- what was put
-
-joined_from : (ssid copy offset : ℕ) (chunks : List ChunkText) (bytes : List ℕ) → JoinFrom ssid copy offset chunks bytes → bytes ≡ joined chunks
-joined_from ssid copy offset [] bytes are = are
-joined_from ssid copy offset (chunk ∷ chunks) bytes are =
-    are.3.1 ∙ ap (λ (t : List ℕ). chunk.bytes ++ t) (joined_from ssid copy (offset + length chunk.bytes) chunks are.3.0 are.3.2)
 
 had_raw : (clock : ClockView) (cart : ℕ) (before : List ℕ) (label : Label) (files : List CommittedFile) → HadFiles clock cart before label files → IsRaw label
 had_raw clock cart before label files (inl fresh) =
@@ -261,7 +167,7 @@ one_more_gives clock cart number bytes before after more =
           on = (had_raw clock cart before more.label more.files more.had, more.stands);
           counted = sym more.counted;
         },
-        (blocks, more.holds.1, joined_from number 1 0 (all_chunks blocks) bytes more.holds.2),
+        (blocks, more.holds.1, sym (joined_bytes number 1 0 (all_chunks blocks) bytes more.holds.2)),
       ),
     )
 

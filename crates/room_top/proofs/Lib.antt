@@ -1,3 +1,4 @@
+pub mod Endings
 pub mod GetRuns
 pub mod Numbers
 pub mod PutRuns

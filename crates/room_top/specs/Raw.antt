@@ -1,8 +1,8 @@
 -- Raw cartridges, which hold files of bytes and no save sets.
 use Rattle.std.specs.Prelude.{◌≡◌, ◌⊎◌, ℕ, ◌+◌, ◌≤◌, ◌<◌, ◌^◌, List, ◌∷◌, ◌++◌, length, map}
 use Rattle.std.specs.Prelude.{replicate}
-use Rattle.std.specs.List.{flat_map}
-use Rattle.volume_block.specs.Chunks.{ChunkText, all_chunks, JoinFrom}
+use Rattle.volume_block.specs.Chunks.{ChunkText, all_chunks, JoinFrom, joined}
+use Rattle.volume_block.specs.Valid.{IsRaw}
 use Rattle.volume_block.specs.declared.label.Label.{Label}
 use Rattle.volume_store.specs.Committed.{DataPlace, Whole, Damaged, CommittedFile, Closed, Stop}
 use Rattle.volume_store.specs.Committed.{BadLabel, Labelled, Committed, HasLabel}
@@ -18,10 +18,6 @@ raw_label cart made = record {
   pool = 0x52 ∷ 0x61 ∷ 0x77 ∷ replicate 61 0;
 }
 
--- the volumes with numbers from 2^63 on are raw
-abbrev pub IsRaw : Label → Type 0
-IsRaw label = 2 ^ 63 ≤ label.volid.0
-
 -- a raw cartridge with these files, which end at a closed mark place
 abbrev pub IsRawCartridge : List ℕ → Label → List CommittedFile → ℕ → Type 0
 IsRawCartridge disk label files mark =
@@ -35,10 +31,6 @@ JoinTo ssid blocks bytes = JoinFrom ssid 1 0 (all_chunks blocks) bytes
 abbrev pub FileHolds : ℕ → CommittedFile → List ℕ → Type 0
 FileHolds ssid file bytes =
     (blocks : List (List ChunkText)) × (file.places ≡ map Whole blocks) × JoinTo ssid blocks bytes
-
--- the bytes of chunks, in their order
-abbrev pub joined : List ChunkText → List ℕ
-joined chunks = flat_map (λ (chunk : ChunkText). chunk.bytes) chunks
 
 -- a committed file whose data blocks are all whole, with the bytes of its chunks
 abbrev pub HasBytes : CommittedFile → List ℕ → Type 0

@@ -1,207 +1,220 @@
--- What the program answers, prints and leaves, status by status.
-use Rattle.std.specs.Prelude.{◌≡◌, ◌⊎◌, ℕ, ◌≤◌, ◌<◌, List, [], ◌++◌, length, drop, codes, Result}
-use Rattle.std.specs.Prelude.{Ok, Err}
+-- How the program ends, command by command and answer by answer: why the answer comes, what was
+-- taken of the input and of the clock, what was printed, what stands on the disk, and what a crash
+-- at any moment of the run leaves.
+use Rattle.std.specs.Prelude.{◌≡◌, ◌⊎◌, ℕ, ◌≤◌, ◌<◌, List, [], ◌++◌, length, drop, codes}
 use Rattle.std.specs.Fmt.{decimal}
 use Rattle.room_base.specs.Faults.{Rose}
 use Rattle.room_base.specs.Outside.{SourceView, SinkView, ClockView, Told, AddsFront, later_moments}
-use Rattle.room_base.specs.declared.numbers.Moment.{Moment}
 use Rattle.room_base.specs.declared.refusal.Refusal.TheVariants as refusals
 use Rattle.room_disk.specs.Disk.{DiskView, Quiet, Others, Settled, Leaves, OnFile}
 use Rattle.volume_block.specs.declared.label.Label.{Label}
+use Rattle.volume_store.specs.Committed.{Committed, Unlabelled}
 use Rattle.volume_store.specs.Writes.{cart_file}
-use Rattle.room_top.specs.Raw.{GivesFile, IsDamagedAt, IsStrange}
+use Rattle.room_top.specs.Raw.{GivesFile, IsDamagedIn, LacksFile, IsDamagedAt, IsStrange}
 use Rattle.room_top.specs.Put.{HasSize, HasOneFileMore, IsPut, IsOccupied, IsFull, kept_line}
 use Rattle.room_top.specs.Words.{ArePut, AreGet, Misfit}
 use Rattle.room_top.specs.declared.status.Status.{Status}
 use Rattle.room_top.specs.declared.status.Status.TheVariants as status
 
--- the status of a command's outcome
-abbrev pub status_of : Result (Unit {0}) Status → Status
-status_of (Ok _) = status.Done
-status_of (Err other) = other
+-- what a run works on
+pub record World : Type 1 where
+  pub input : SourceView
+  pub out : SinkView
+  pub disk : DiskView
+  pub clock : ClockView
 
--- the counts of faults before and after
-pub record Counts : Type 0 where
-  pub input : ℕ
-  pub out : ℕ
-  pub disk : ℕ → ℕ
-  pub clock : ℕ
+abbrev pub world : SourceView → SinkView → DiskView → ClockView → World
+world input out disk clock = record { input = input; out = out; disk = disk; clock = clock }
 
-abbrev pub counts : SourceView → SinkView → DiskView → ClockView → Counts
-counts input out disk clock = record {
-  input = input.faults;
-  out = out.faults;
-  disk = disk.faults;
-  clock = clock.faults;
-}
+-- no count of faults falls
+pub record Later (before now : World) : Type 0 where
+  pub input : before.input.faults ≤ now.input.faults
+  pub out : before.out.faults ≤ now.out.faults
+  pub disk : (file : ℕ) → before.disk.faults file ≤ now.disk.faults file
+  pub clock : before.clock.faults ≤ now.clock.faults
 
--- no count falls
-pub record Later (before now : Counts) : Type 0 where
-  pub input : before.input ≤ now.input
-  pub out : before.out ≤ now.out
-  pub disk : (file : ℕ) → before.disk file ≤ now.disk file
-  pub clock : before.clock ≤ now.clock
+-- ---- what stays as it was
+
+abbrev pub InputStays : World → World → Type 0
+InputStays before now = Told before.input.tells (now.input.left ≡ before.input.left)
+
+abbrev pub OutStays : World → World → Type 0
+OutStays before now = Told before.out.tells (now.out.written ≡ before.out.written)
+
+abbrev pub DiskStays : World → World → Type 0
+DiskStays before now = Told before.disk.tells (Quiet before.disk now.disk)
+
+abbrev pub ClockStays : World → World → Type 0
+ClockStays before now = Told before.clock.tells (now.clock.moments ≡ before.clock.moments)
+
+-- everything stays, but for the counts of faults
+pub record Stays (before now : World) : Type 0 where
+  pub input : InputStays before now
+  pub out : OutStays before now
+  pub disk : DiskStays before now
+  pub clock : ClockStays before now
+
+-- everything but the input stays
+pub record OnlyTakes (before now : World) : Type 0 where
+  pub out : OutStays before now
+  pub disk : DiskStays before now
+  pub clock : ClockStays before now
+
+-- everything but the output stays
+pub record OnlyPrints (before now : World) : Type 0 where
+  pub input : InputStays before now
+  pub disk : DiskStays before now
+  pub clock : ClockStays before now
+
+-- ---- the cartridge
+
+-- P holds of the bytes that the cartridge had
+abbrev pub OnCartridge : ℕ → World → (List ℕ → Type 0) → Type 0
+OnCartridge cart before P = Told before.disk.tells (P (before.disk.reads (cart_file cart)))
+
+-- the count of the cartridge's file rose
+abbrev pub DiskRose : ℕ → World → World → Type 0
+DiskRose cart before now =
+    Rose (before.disk.faults (cart_file cart)) (now.disk.faults (cart_file cart))
 
 -- ---- put
 
--- why `put` on this cartridge ends so: a fault has its count risen, and there are five refusals
-abbrev pub PutCause : ℕ → Counts → Counts → Status → Type 0
-PutCause cart before now status.Done = Unit {0}
-PutCause cart before now status.Memory = Unit {0}
-PutCause cart before now status.ReadFault = Rose before.input now.input
-PutCause cart before now status.WriteFault = Rose before.out now.out
-PutCause cart before now status.DiskFault =
-    Rose (before.disk (cart_file cart)) (now.disk (cart_file cart))
-PutCause cart before now status.ClockFault = Rose before.clock now.clock
-PutCause cart before now (status.Refused (refusals.Malformed field)) = field ≡ codes "input"
-PutCause cart before now (status.Refused (refusals.TooMany limit)) = limit ≡ 257024
-PutCause cart before now (status.Refused (refusals.Exists kind name)) =
-    (kind ≡ codes "cart") × (name ≡ decimal cart)
-PutCause cart before now (status.Refused (refusals.DamagedBlock volid block)) = Unit {0}
-PutCause cart before now (status.Refused (refusals.NeedVolume pool)) = pool ≡ codes "Raw"
-PutCause cart before now other = ⊥
-
--- what the status of `put` says of the bytes that the input had, and of those that are left
-abbrev pub JudgesBytes : List ℕ → List ℕ → Status → Type 0
-JudgesBytes had left status.Done = HasSize had × (left ≡ [])
-JudgesBytes had left status.WriteFault = HasSize had
-JudgesBytes had left status.DiskFault = HasSize had
-JudgesBytes had left status.ClockFault = HasSize had
-JudgesBytes had left (status.Refused (refusals.Malformed field)) = had ≡ []
-JudgesBytes had left (status.Refused (refusals.TooMany limit)) =
-    (257024 < length had) × (left ≡ drop 257025 had)
-JudgesBytes had left (status.Refused other) = HasSize had
-JudgesBytes had left other = Unit {0}
-
 -- the bytes of the input, where it tells them
-abbrev pub AreInput : SourceView → List ℕ → Type 0
-AreInput input bytes = Told input.tells (bytes ≡ input.left)
+abbrev pub AreInput : World → List ℕ → Type 0
+AreInput before bytes = Told before.input.tells (bytes ≡ before.input.left)
 
--- what the status of `put` says of the cartridge as it was
-abbrev pub JudgesCartridge : SourceView → List ℕ → Status → Type 0
-JudgesCartridge input before status.ClockFault = ¬ (IsOccupied before)
-JudgesCartridge input before (status.Refused (refusals.Exists kind name)) =
-    (label : Label) × IsStrange before label
-JudgesCartridge input before (status.Refused (refusals.DamagedBlock volid block)) =
-    IsDamagedAt before volid.0 block
-JudgesCartridge input before (status.Refused (refusals.NeedVolume pool)) =
-    (bytes : List ℕ) × AreInput input bytes × IsFull (length bytes) before
-JudgesCartridge input before other = Unit {0}
+-- all of the input was taken, and it can be a file
+abbrev pub TakesAll : World → World → Type 0
+TakesAll before now =
+    Told before.input.tells (HasSize before.input.left × (now.input.left ≡ []))
+
+-- one byte more was taken than a file may have
+abbrev pub TakesTooMany : World → World → Type 0
+TakesTooMany before now = Told before.input.tells
+    ((257024 < length before.input.left) × (now.input.left ≡ drop 257025 before.input.left))
 
 -- the clock was asked once, for the label of a cartridge that has none, once the input was judged
-abbrev pub IsAsked : SourceView → DiskView → ℕ → List Moment → List Moment → Type 0
-IsAsked input disk cart before now = (now ≡ later_moments before)
-    × Told input.tells (HasSize input.left)
-    × Told disk.tells (¬ (IsOccupied (disk.reads (cart_file cart))))
+pub record IsAsked (cart : ℕ) (before now : World) : Type 0 where
+  pub once : now.clock.moments ≡ later_moments before.clock.moments
+  pub judged : Told before.input.tells (HasSize before.input.left)
+  pub free : OnCartridge cart before (λ bytes. ¬ (IsOccupied bytes))
 
--- what `put` makes of the clock's moments
-abbrev pub AsksClock : SourceView → DiskView → ℕ → List Moment → List Moment → Status → Type 0
-AsksClock input disk cart before now status.Done =
-    (now ≡ before) ⊎ IsAsked input disk cart before now
-AsksClock input disk cart before now status.WriteFault =
-    (now ≡ before) ⊎ IsAsked input disk cart before now
-AsksClock input disk cart before now status.DiskFault =
-    (now ≡ before) ⊎ IsAsked input disk cart before now
-AsksClock input disk cart before now status.Memory =
-    (now ≡ before) ⊎ IsAsked input disk cart before now
-AsksClock input disk cart before now other = now ≡ before
+abbrev pub MayAsk : ℕ → World → World → Type 0
+MayAsk cart before now = Told before.clock.tells
+    ((now.clock.moments ≡ before.clock.moments) ⊎ IsAsked cart before now)
 
--- the input is a file of the cartridge, which has this number, and stays there at every crash
-abbrev pub KeepsInput : SourceView → ClockView → ℕ → DiskView → DiskView → List ℕ → ℕ → Type 0
-KeepsInput input clock cart old new bytes number = AreInput input bytes × Told old.tells
-    (HasOneFileMore clock cart bytes (old.reads (cart_file cart)) number
-    (new.reads (cart_file cart)) × Settled new (cart_file cart))
+-- The cartridge was written on: of the input all was taken, of the clock no more than the moment of
+-- a new label, and at each moment a crash leaves the cartridge as `IsPut` says, and each other file
+-- as it was.
+pub record WritesOn (cart : ℕ) (before now : World) : Type 0 where
+  pub taken : TakesAll before now
+  pub asked : MayAsk cart before now
+  pub others : Told before.disk.tells (Others (cart_file cart) before.disk now.disk)
+  pub moments : Told before.disk.tells ((bytes : List ℕ) × AreInput before bytes
+      × Leaves before.disk now.disk (OnFile (cart_file cart)
+      (IsPut before.clock cart bytes (before.disk.reads (cart_file cart))) before.disk))
 
-abbrev pub StoresFile : SourceView → ClockView → ℕ → DiskView → DiskView → Status → Type 0
-StoresFile input clock cart old new status.Done =
-    (bytes : List ℕ) × ((number : ℕ) × KeepsInput input clock cart old new bytes number)
-StoresFile input clock cart old new status.WriteFault =
-    (bytes : List ℕ) × ((number : ℕ) × KeepsInput input clock cart old new bytes number)
-StoresFile input clock cart old new other = Unit {0}
+-- the input is a file of the cartridge, with this number, and stays there at every crash
+pub record Keeps (cart : ℕ) (before now : World) (bytes : List ℕ) (number : ℕ) : Type 0 where
+  pub input : AreInput before bytes
+  pub stands : OnCartridge cart before (λ old. HasOneFileMore before.clock cart bytes old number
+      (now.disk.reads (cart_file cart)))
+  pub settled : Told before.disk.tells (Settled now.disk (cart_file cart))
 
--- what is printed: the whole line with the file's number, a front of it, or nothing
-abbrev pub Prints : SourceView → ClockView → ℕ → DiskView → DiskView → List ℕ → List ℕ → Status
-    → Type 0
-Prints input clock cart old new before now status.Done =
-    (bytes : List ℕ) × ((number : ℕ) × KeepsInput input clock cart old new bytes number
-    × (now ≡ before ++ kept_line (length bytes) number cart))
-Prints input clock cart old new before now status.WriteFault =
-    (bytes : List ℕ) × ((number : ℕ) × KeepsInput input clock cart old new bytes number
-    × AddsFront before now (kept_line (length bytes) number cart))
-Prints input clock cart old new before now other = now ≡ before
+-- the input is kept, and of the line that says so this was printed
+abbrev pub KeepsAndPrints : ℕ → World → World → (List ℕ → List ℕ → List ℕ → Type 0) → Type 0
+KeepsAndPrints cart before now Prints = (bytes : List ℕ) × ((number : ℕ)
+    × Keeps cart before now bytes number
+    × Told before.out.tells
+    (Prints before.out.written now.out.written (kept_line (length bytes) number cart)))
 
--- At every moment a crash leaves the cartridge as `IsPut` says; each other file stays.
-abbrev pub TouchesCartridge : SourceView → ClockView → ℕ → DiskView → DiskView → Type 0
-TouchesCartridge input clock cart old new =
-    Others (cart_file cart) old new × ((bytes : List ℕ) × AreInput input bytes
-    × Leaves old new
-    (OnFile (cart_file cart) (IsPut clock cart bytes (old.reads (cart_file cart))) old))
-
--- what `put` leaves of the disk: a refusal before the first write leaves it as it was
-abbrev pub LeavesDisk : SourceView → ClockView → ℕ → DiskView → DiskView → Status → Type 0
-LeavesDisk input clock cart old new status.Done = TouchesCartridge input clock cart old new
-LeavesDisk input clock cart old new status.WriteFault = TouchesCartridge input clock cart old new
-LeavesDisk input clock cart old new status.DiskFault = TouchesCartridge input clock cart old new
-LeavesDisk input clock cart old new other = Quiet old new
+-- how a `put` on this cartridge ends
+abbrev pub PutEnds : ℕ → World → World → Status → Type 0
+-- the input is kept, and the line says so
+PutEnds cart before now status.Done = WritesOn cart before now
+    × KeepsAndPrints cart before now (λ old new line. new ≡ old ++ line)
+-- memory comes short before the first write
+PutEnds cart before now status.Memory =
+    OutStays before now × DiskStays before now × MayAsk cart before now
+PutEnds cart before now status.ReadFault =
+    Rose before.input.faults now.input.faults × OnlyTakes before now
+-- the input is kept, but not all of the line was printed
+PutEnds cart before now status.WriteFault = Rose before.out.faults now.out.faults
+    × WritesOn cart before now × KeepsAndPrints cart before now AddsFront
+PutEnds cart before now status.DiskFault =
+    DiskRose cart before now × WritesOn cart before now × OutStays before now
+-- the cartridge was to get a label
+PutEnds cart before now status.ClockFault = Rose before.clock.faults now.clock.faults
+    × OnlyTakes before now × TakesAll before now
+    × OnCartridge cart before (λ bytes. ¬ (IsOccupied bytes))
+-- the input is empty
+PutEnds cart before now (status.Refused (refusals.Malformed field)) = (field ≡ codes "input")
+    × OnlyTakes before now × Told before.input.tells (before.input.left ≡ [])
+-- the input is too long
+PutEnds cart before now (status.Refused (refusals.TooMany limit)) =
+    (limit ≡ 257024) × OnlyTakes before now × TakesTooMany before now
+-- the cartridge isn't raw
+PutEnds cart before now (status.Refused (refusals.Exists kind name)) =
+    ((kind ≡ codes "cart") × (name ≡ decimal cart)) × OnlyTakes before now × TakesAll before now
+    × OnCartridge cart before (λ disk. (label : Label) × IsStrange disk label)
+-- its label or a mark is damaged
+PutEnds cart before now (status.Refused (refusals.DamagedBlock volid block)) =
+    OnlyTakes before now × TakesAll before now
+    × OnCartridge cart before (λ disk. IsDamagedAt disk volid.0 block)
+-- it has no room
+PutEnds cart before now (status.Refused (refusals.NeedVolume pool)) = (pool ≡ codes "Raw")
+    × OnlyTakes before now × TakesAll before now × OnCartridge cart before
+    (λ disk. (bytes : List ℕ) × AreInput before bytes × IsFull (length bytes) disk)
+PutEnds cart before now other = ⊥
 
 -- ---- get
 
--- why `get` of this file ends so, by the counts of the output and of the cartridge's file: a fault
--- has its count risen, and there are four refusals
-abbrev pub GetsCause : ℕ → ℕ → ℕ → ℕ → ℕ → ℕ → Status → Type 0
-GetsCause cart number out_before out_now disk_before disk_now status.Done = Unit {0}
-GetsCause cart number out_before out_now disk_before disk_now status.Memory = Unit {0}
-GetsCause cart number out_before out_now disk_before disk_now status.WriteFault =
-    Rose out_before out_now
-GetsCause cart number out_before out_now disk_before disk_now status.DiskFault =
-    Rose disk_before disk_now
-GetsCause cart number out_before out_now disk_before disk_now
-    (status.Refused (refusals.Unlabelled named)) = named.0 ≡ cart
-GetsCause cart number out_before out_now disk_before disk_now
-    (status.Refused (refusals.DamagedBlock volid block)) = Unit {0}
-GetsCause cart number out_before out_now disk_before disk_now
-    (status.Refused (refusals.Strange volid)) = Unit {0}
-GetsCause cart number out_before out_now disk_before disk_now
-    (status.Refused (refusals.NoSuch kind name)) =
-    (kind ≡ codes "file") × (name ≡ decimal number)
-GetsCause cart number out_before out_now disk_before disk_now other = ⊥
+-- these are the bytes of the file with this number, and of them this was printed
+abbrev pub GivesAndPrints : ℕ → ℕ → World → World → (List ℕ → List ℕ → List ℕ → Type 0) → Type 0
+GivesAndPrints cart number before now Prints = (bytes : List ℕ)
+    × OnCartridge cart before (λ disk. GivesFile disk number bytes)
+    × Told before.out.tells (Prints before.out.written now.out.written bytes)
 
-abbrev pub GetCause : ℕ → ℕ → Counts → Counts → Status → Type 0
-GetCause cart number before now answer =
-    GetsCause cart number before.out now.out (before.disk (cart_file cart))
-    (now.disk (cart_file cart)) answer
+-- how a `get` of this file of this cartridge ends
+abbrev pub GetEnds : ℕ → ℕ → World → World → Status → Type 0
+-- the file's bytes are printed
+GetEnds cart number before now status.Done = OnlyPrints before now
+    × GivesAndPrints cart number before now (λ old new bytes. new ≡ old ++ bytes)
+GetEnds cart number before now status.Memory = Stays before now
+-- not all of them are printed
+GetEnds cart number before now status.WriteFault = Rose before.out.faults now.out.faults
+    × OnlyPrints before now × GivesAndPrints cart number before now AddsFront
+GetEnds cart number before now status.DiskFault = DiskRose cart before now × Stays before now
+-- the cartridge has no label
+GetEnds cart number before now (status.Refused (refusals.Unlabelled named)) = (named.0 ≡ cart)
+    × Stays before now × OnCartridge cart before (λ disk. Committed disk Unlabelled)
+-- its label, a mark or a data block of the file is damaged
+GetEnds cart number before now (status.Refused (refusals.DamagedBlock volid block)) =
+    Stays before now × OnCartridge cart before
+    (λ disk. IsDamagedAt disk volid.0 block ⊎ IsDamagedIn disk number volid.0 block)
+-- it isn't raw
+GetEnds cart number before now (status.Refused (refusals.Strange volid)) = Stays before now
+    × OnCartridge cart before
+    (λ disk. (label : Label) × IsStrange disk label × (volid.0 ≡ label.volid.0))
+-- it has no file with this number
+GetEnds cart number before now (status.Refused (refusals.NoSuch kind name)) =
+    ((kind ≡ codes "file") × (name ≡ decimal number)) × Stays before now
+    × OnCartridge cart before (λ disk. LacksFile disk number)
+GetEnds cart number before now other = ⊥
 
--- the bytes of the file with this number, where the disk tells them
-abbrev pub AreOnDisk : DiskView → ℕ → ℕ → List ℕ → Type 0
-AreOnDisk disk cart number bytes =
-    Told disk.tells (GivesFile (disk.reads (cart_file cart)) number bytes)
+-- ---- every command
 
--- what is written: the file's bytes, a front of them, or nothing
-abbrev pub GetWrites : DiskView → ℕ → ℕ → List ℕ → List ℕ → Status → Type 0
-GetWrites disk cart number before now status.Done =
-    (bytes : List ℕ) × AreOnDisk disk cart number bytes × (now ≡ before ++ bytes)
-GetWrites disk cart number before now status.WriteFault =
-    (bytes : List ℕ) × AreOnDisk disk cart number bytes × AddsFront before now bytes
-GetWrites disk cart number before now other = now ≡ before
+-- how a run ends that reads its words alone: the first that doesn't fit is named, or memory comes
+-- short
+abbrev pub WordsEnd : List (List ℕ) → World → World → Status → Type 0
+WordsEnd words before now (status.Usage word) = Misfit words word × Stays before now
+WordsEnd words before now status.Memory = Stays before now
+WordsEnd words before now other = ⊥
 
--- ---- either of them
-
--- P holds of the words of `put`, or Q of those of `get`; or the words don't fit. Memory may be
--- short before that is known.
-abbrev pub ForCommand : List (List ℕ) → Status → (ℕ → Type 0) → (ℕ → ℕ → Type 0) → Type 0
-ForCommand words (status.Usage word) P Q = Misfit words word
-ForCommand words status.Memory P Q = Unit {0}
-ForCommand words other P Q =
-    ((cart : ℕ) × ArePut words cart × P cart)
-    ⊎ ((cart : ℕ) × ((number : ℕ) × AreGet words cart number × Q cart number))
-
--- where the words don't fit, or memory is short, everything stays as it was
-abbrev pub UnlessRun : Status → Type 0 → Type 0
-UnlessRun (status.Usage word) P = P
-UnlessRun status.Memory P = P
-UnlessRun other P = Unit {0}
-
--- where the words don't fit, everything stays as it was
-abbrev pub UnlessUsage : Status → Type 0 → Type 0
-UnlessUsage (status.Usage word) P = P
-UnlessUsage other P = Unit {0}
+-- how a run with these words ends
+pub record Ends (words : List (List ℕ)) (before now : World) (answer : Status) : Type 0 where
+  pub later : Later before now
+  pub so : WordsEnd words before now answer
+      ⊎ ((cart : ℕ) × ArePut words cart × PutEnds cart before now answer)
+      ⊎ ((cart : ℕ) × ((number : ℕ) × AreGet words cart number
+      × GetEnds cart number before now answer))

@@ -1,14 +1,18 @@
--- What the program's arguments ask for.
-use Rattle.std.specs.Prelude.{◌≡◌, ◌⊎◌, ℕ, List, [], ◌∷◌, ◌++◌, codes, map, string_bytes, Result}
-use Rattle.std.specs.Prelude.{Ok, Err}
+-- What the program's arguments ask for, and how the program ends.
+use Rattle.std.specs.Prelude.{◌≡◌, ◌≢◌, ℕ, List, [], ◌∷◌, ◌++◌, codes, map, string_bytes, Result}
+use Rattle.std.specs.Prelude.{Ok, Err, false}
 use Rattle.room_base.specs.Faults.{Rose}
-use Rattle.room_base.specs.Outside.{AddsFront}
+use Rattle.room_base.specs.Outside.{SinkView, Told, AddsFront}
 use Rattle.room_base.specs.Text.{IsName, HasLength}
-use Rattle.room_top.specs.Words.{Misfit}
+use Rattle.room_disk.specs.Untold.{untold_disk}
+use Rattle.room_top.specs.Report.{Reports}
+use Rattle.room_top.specs.Run.{World, world, Ends}
 use Rattle.room_top.specs.declared.start.Request.{Request}
 use Rattle.room_top.specs.declared.start.Request.TheVariants as requests
 use Rattle.room_top.specs.declared.status.Status.{Status}
 use Rattle.room_top.specs.declared.status.Status.TheVariants as status
+
+-- ---- what is asked for
 
 -- a word that names a folder
 abbrev pub IsFolder : List ℕ → Type 0
@@ -26,31 +30,59 @@ abbrev pub NamesNoFolder : List (List ℕ) → List ℕ → Type 0
 NamesNoFolder [] word = word ≡ []
 NamesNoFolder (first ∷ rest) word = (word ≡ first) × ¬ (IsFolder first)
 
+-- the words are neither `--help` alone nor `--version` alone
+abbrev pub AskForRun : List (List ℕ) → Type 0
+AskForRun words = (words ≢ codes "--help" ∷ []) × (words ≢ codes "--version" ∷ [])
+
 -- what the words ask for
 abbrev pub AsksFor : List (List ℕ) → Result Request Status → Type 0
 AsksFor words (Ok requests.Help) = words ≡ codes "--help" ∷ []
 AsksFor words (Ok requests.Version) = words ≡ codes "--version" ∷ []
 AsksFor words (Ok (requests.Run folder rest)) =
-    (words ≡ folder ∷ map string_bytes rest.items) × IsFolder folder
+    AskForRun words × (words ≡ folder ∷ map string_bytes rest.items) × IsFolder folder
 AsksFor words (Err (status.Usage word)) = NamesNoFolder words word
 AsksFor words (Err status.Memory) = Unit {0}
 AsksFor words (Err other) = ⊥
 
--- a text was written, or the output failed
-abbrev pub IsToldBy : ℕ → ℕ → Status → Type 0
-IsToldBy before now status.Done = Unit {0}
-IsToldBy before now status.WriteFault = Rose before now
-IsToldBy before now other = ⊥
+-- ---- what is done for it
 
-abbrev pub TellsText : List ℕ → List ℕ → List ℕ → Status → Type 0
-TellsText before now text status.Done = now ≡ before ++ text
-TellsText before now text status.WriteFault = AddsFront before now text
-TellsText before now text other = ⊥
+-- the text was printed, or a front of it where the output failed
+abbrev pub PrintsText : List ℕ → SinkView → SinkView → Status → Type 0
+PrintsText text old new status.Done = Told old.tells (new.written ≡ old.written ++ text)
+PrintsText text old new status.WriteFault =
+    Rose old.faults new.faults × Told old.tells (AddsFront old.written new.written text)
+PrintsText text old new other = ⊥
 
--- a status that the words may lead to: a word that doesn't fit is the first, or the first behind
--- the folder
-abbrev pub IsStarted : List (List ℕ) → Status → Type 0
-IsStarted [] (status.Usage word) = word ≡ []
-IsStarted (first ∷ rest) (status.Usage word) =
-    ((word ≡ first) × ¬ (IsFolder first)) ⊎ (IsFolder first × Misfit rest word)
-IsStarted words other = Unit {0}
+-- the counts of faults of the system's own input, disk and clock, which tell nothing else
+pub record SystemFaults : Type 0 where
+  pub input : ℕ
+  pub disk : ℕ → ℕ
+  pub clock : ℕ
+
+abbrev pub system : SystemFaults → SinkView → World
+system faults out =
+    world (record { tells = false; taken = []; left = []; faults = faults.input }) out
+    (untold_disk faults.disk)
+    (record { tells = false; moments = []; faults = faults.clock })
+
+-- a run with these words over the system's own objects
+abbrev pub RunsOverSystem : List (List ℕ) → SinkView → SinkView → Status → Type 0
+RunsOverSystem words old new answer = (before : SystemFaults)
+    × ((now : SystemFaults) × Ends words (system before old) (system now new) answer)
+
+-- what is printed for the request, and the status that it ends with
+abbrev pub Serves : List ℕ → List ℕ → Result Request Status → SinkView → SinkView → Status → Type 0
+Serves help version (Ok requests.Help) old new answer = PrintsText help old new answer
+Serves help version (Ok requests.Version) old new answer = PrintsText version old new answer
+Serves help version (Ok (requests.Run folder words)) old new answer =
+    RunsOverSystem (map string_bytes words.items) old new answer
+Serves help version (Err fault) old new answer = (answer ≡ fault) × (new ≡ old)
+
+-- How the program ends with these words: what they ask for is done on the output, and where errors
+-- go the status is reported.
+pub record Starts (help version : List ℕ) (words : List (List ℕ))
+    (out out_now err err_now : SinkView) (answer : Status) : Type 0 where
+  pub request : Result Request Status
+  pub asked : AsksFor words request
+  pub served : Serves help version request out out_now answer
+  pub reported : Told err.tells (Reports answer err err_now)

@@ -1,25 +1,43 @@
-ghost use Rattle.std.specs.Prelude.{◌≡◌, ◌++◌, ◌+◌, ◌≤◌, ◌<◌, ◌^◌, ℕ, List, length, take, drop};
-ghost use Rattle.std.specs.Prelude.{IfOk, OnOk};
-ghost use Rattle.room_base.specs.Outside.{Told};
-ghost use Rattle.room_disk.specs.Disk.{Quiet};
+ghost use Rattle.std.specs.Prelude.{◌≡◌, ◌+◌, ◌≤◌, ◌<◌, ◌^◌, ℕ, List, length, Err, IfOk, OnOk};
+ghost use Rattle.std.specs.Prelude.{MatchResult};
+ghost use Rattle.room_base.specs.Outside.{SourceView, ClockView, Told};
+ghost use Rattle.room_disk.specs.Disk.{Quiet, FaultCause};
 ghost use Rattle.volume_block.specs.Chunks.{ChunkText};
-ghost use Rattle.volume_block.specs.Valid.{HoldsChunks};
+ghost use Rattle.volume_block.specs.Valid.{HoldsChunks, IsRaw};
 ghost use Rattle.volume_store.specs.Committed.{CommittedFile, HasLabel, AreDataPlaces};
 ghost use Rattle.volume_store.specs.Writes.{cart_file, IsCart};
-ghost use Rattle.room_top.specs.Raw.{IsRaw, joined};
-ghost use Rattle.room_top.specs.Run.{status_of, GetWrites, GetsCause};
-ghost use Rattle.room_top.specs.Stages.{LabelCause, ReadCause, Reads, DataCause, FindsRawLabel};
-ghost use Rattle.room_top.specs.Stages.{FindsPlace, GivesPlaces, IsPlaceWithin, IsRawOrStrange};
-ghost use Rattle.room_top.specs.Stages.{IsDataRead, JudgesRead};
+ghost use Rattle.room_top.specs.Raw.{HasBytes, GivesFile};
+ghost use Rattle.room_top.specs.Run.{world, Later, GetEnds};
+ghost use Rattle.room_top.specs.Stages.{JudgesFile, IsPlaceOf, IsPlaceWithin, IsDataRead};
+ghost use Rattle.room_top.specs.Stages.{JudgesPlaces};
+ghost use Rattle.room_top.specs.declared.get.DataFault.TheVariants as data_faults;
+ghost use Rattle.room_top.specs.declared.get.FileFault.TheVariants as file_faults;
 
 use crate::Status;
-use crate::raw::{CHUNK_SIZE, is_raw};
-use crate::refusals::{damaged, no_file};
-use room_base::{Cart, Memory, Refusal, Sink, Volid, write_all};
+use crate::fault_status::file_status_of;
+use crate::raw::CHUNK_SIZE;
+use room_base::{Cart, Sink, Volid, write_all};
 use room_disk::Store;
 use std::alloc::Global;
-use volume_block::{BLOCK_SIZE, Block, Chunk, Label, next_chunk};
+use volume_block::{BLOCK_SIZE, Block, Label, append_chunks};
 use volume_store::{FilePlace, Found, ReadFault, WalkFault, read_block, read_label, walk_marks};
+
+/// Why a file isn't read.
+#[derive(Clone, Copy, Debug, PartialEq, Eq)]
+pub enum FileFault {
+    Memory,
+    /// The disk failed.
+    Failed,
+    /// The cartridge has no label.
+    Unlabelled,
+    /// The label, volume 0 and block 0, a mark, or a data block of the file isn't valid, or isn't
+    /// there.
+    Damaged { volid: Volid, block: u64 },
+    /// The label isn't raw.
+    Strange { volid: Volid },
+    /// There is no file with this number.
+    NoFile,
+}
 
 /// Why the data blocks of a file weren't read.
 #[derive(Clone, Copy, Debug, PartialEq, Eq)]
@@ -37,85 +55,86 @@ pub fn read_file<D: Store>(
     cart: Cart,
     number: u64,
     disk: &mut D,
-) -> Result<Vec<u8>, Status>
+) -> Result<Vec<u8>, FileFault>
     requires cart { IsCart cart.0 }
     requires number { 1 ≤ number }
-    ensures later { (file : ℕ) → (D.view disk.old).faults file ≤ (D.view disk.new).faults file }
-    ensures cause { ReadCause cart.0 number ((D.view disk.old).faults (cart_file cart.0))
-        ((D.view disk.new).faults (cart_file cart.0)) result }
+    ensures cause { FaultCause (cart_file cart.0) (D.view disk.old) (D.view disk.new)
+        (result ≡ Err file_faults.Failed) }
     ensures tells { (D.view disk.new).tells ≡ (D.view disk.old).tells }
     ensures quiet { Told (D.view disk.old).tells (Quiet (D.view disk.old) (D.view disk.new)) }
-    ensures read { Told (D.view disk.old).tells
-        (Reads (λ bytes. bytes.items) number ((D.view disk.old).reads (cart_file cart.0)) result) }
+    ensures read { Told (D.view disk.old).tells (MatchResult result
+        (λ bytes. GivesFile ((D.view disk.old).reads (cart_file cart.0)) number bytes.items)
+        (JudgesFile number ((D.view disk.old).reads (cart_file cart.0)))) }
 {
     let label = find_raw_label(cart, disk)?;
-    let place = find_place(alloc, cart, &label, number, disk)?;
+    let place = find_place(cart, &label, number, disk)?;
     match read_places(alloc, cart, label.volid, place, disk) {
         Ok(bytes) => Ok(bytes),
-        Err(DataFault::Memory) => Err(Status::Memory),
-        Err(DataFault::Failed) => Err(Status::DiskFault),
-        Err(DataFault::Damaged { block }) => Err(damaged(label.volid, block)),
+        Err(DataFault::Memory) => Err(FileFault::Memory),
+        Err(DataFault::Failed) => Err(FileFault::Failed),
+        Err(DataFault::Damaged { block }) => Err(FileFault::Damaged {
+            volid: label.volid,
+            block,
+        }),
     }
 }
 
 // The label of a raw cartridge.
-fn find_raw_label<D: Store>(cart: Cart, disk: &mut D) -> Result<Label, Status>
+fn find_raw_label<D: Store>(cart: Cart, disk: &mut D) -> Result<Label, FileFault>
     requires { IsCart cart.0 }
-    ensures later { (file : ℕ) → (D.view disk.old).faults file ≤ (D.view disk.new).faults file }
-    ensures cause { LabelCause cart.0 ((D.view disk.old).faults (cart_file cart.0))
-        ((D.view disk.new).faults (cart_file cart.0)) result }
+    ensures cause { FaultCause (cart_file cart.0) (D.view disk.old) (D.view disk.new)
+        (result ≡ Err file_faults.Failed) }
     ensures tells { (D.view disk.new).tells ≡ (D.view disk.old).tells }
     ensures quiet { Told (D.view disk.old).tells (Quiet (D.view disk.old) (D.view disk.new)) }
-    ensures found { Told (D.view disk.old).tells
-        (FindsRawLabel ((D.view disk.old).reads (cart_file cart.0)) result) }
+    ensures raw { IfOk result IsRaw }
+    ensures found { Told (D.view disk.old).tells ((number : ℕ) → MatchResult result
+        (HasLabel ((D.view disk.old).reads (cart_file cart.0)))
+        (JudgesFile number ((D.view disk.old).reads (cart_file cart.0)))) }
 {
     let Ok(found) = read_label(disk, cart) else {
-        return Err(Status::DiskFault);
+        return Err(FileFault::Failed);
     };
     match found {
-        Found::Blank | Found::Closed => Err(Status::Refused(Refusal::Unlabelled { cart })),
-        Found::Damaged(_) => Err(damaged(Volid(0), 0)),
-        Found::Labelled(label) => raw_or_strange(label),
-    }
-}
-
-fn raw_or_strange(label: Label) -> Result<Label, Status>
-    ensures { IsRawOrStrange label result }
-{
-    if is_raw(&label) {
-        Ok(label)
-    } else {
-        Err(Status::Refused(Refusal::Strange { volid: label.volid }))
+        Found::Blank | Found::Closed => Err(FileFault::Unlabelled),
+        Found::Damaged(_) => Err(FileFault::Damaged {
+            volid: Volid(0),
+            block: 0,
+        }),
+        Found::Labelled(label) if label.is_raw() => Ok(label),
+        Found::Labelled(label) => Err(FileFault::Strange { volid: label.volid }),
     }
 }
 
 // The place of the file with this number.
 fn find_place<D: Store>(
-    alloc: Global,
     cart: Cart,
     label: &Label,
     number: u64,
     disk: &mut D,
-) -> Result<FilePlace, Status>
+) -> Result<FilePlace, FileFault>
     requires cart { IsCart cart.0 }
     requires number { 1 ≤ number }
-    ensures later { (file : ℕ) → (D.view disk.old).faults file ≤ (D.view disk.new).faults file }
-    ensures cause { ReadCause cart.0 number ((D.view disk.old).faults (cart_file cart.0))
-        ((D.view disk.new).faults (cart_file cart.0)) result }
+    requires raw { IsRaw label.now }
+    ensures cause { FaultCause (cart_file cart.0) (D.view disk.old) (D.view disk.new)
+        (result ≡ Err file_faults.Failed) }
     ensures tells { (D.view disk.new).tells ≡ (D.view disk.old).tells }
     ensures within { IfOk result IsPlaceWithin }
     ensures quiet { Told (D.view disk.old).tells (Quiet (D.view disk.old) (D.view disk.new)) }
     ensures found { Told (D.view disk.old).tells
-        (HasLabel ((D.view disk.old).reads (cart_file cart.0)) label.now → IsRaw label.now
-        → FindsPlace ((D.view disk.old).reads (cart_file cart.0)) number label.now result) }
+        (HasLabel ((D.view disk.old).reads (cart_file cart.0)) label.now → MatchResult result
+        (IsPlaceOf ((D.view disk.old).reads (cart_file cart.0)) number label.now)
+        (JudgesFile number ((D.view disk.old).reads (cart_file cart.0)))) }
 {
     match walk_marks(disk, cart, label.volid, number) {
         Ok(walk) => match walk.wanted {
             Some(place) => Ok(place),
-            None => Err(no_file(alloc, number)),
+            None => Err(FileFault::NoFile),
         },
-        Err(WalkFault::BadMark { number }) => Err(damaged(label.volid, number)),
-        Err(WalkFault::Failed) => Err(Status::DiskFault),
+        Err(WalkFault::BadMark { number }) => Err(FileFault::Damaged {
+            volid: label.volid,
+            block: number,
+        }),
+        Err(WalkFault::Failed) => Err(FileFault::Failed),
     }
 }
 
@@ -129,16 +148,15 @@ fn read_places<D: Store>(
 ) -> Result<Vec<u8>, DataFault>
     requires cart { IsCart cart.0 }
     requires place { IsPlaceWithin place }
-    ensures later { (file : ℕ) → (D.view disk.old).faults file ≤ (D.view disk.new).faults file }
-    ensures cause { DataCause ((D.view disk.old).faults (cart_file cart.0))
-        ((D.view disk.new).faults (cart_file cart.0)) result }
+    ensures cause { FaultCause (cart_file cart.0) (D.view disk.old) (D.view disk.new)
+        (result ≡ Err data_faults.Failed) }
     ensures tells { (D.view disk.new).tells ≡ (D.view disk.old).tells }
     ensures quiet { Told (D.view disk.old).tells (Quiet (D.view disk.old) (D.view disk.new)) }
     ensures given { Told (D.view disk.old).tells
         ((file : CommittedFile) → (place.mark ≡ file.mark) → (place.count ≡ length file.places)
         → AreDataPlaces ((D.view disk.old).reads (cart_file cart.0)) volid.0
         (file.mark + 1) file.places
-        → GivesPlaces (λ bytes. bytes.items) file result) }
+        → MatchResult result (λ bytes. HasBytes file bytes.items) (JudgesPlaces file)) }
 {
     let count = place.count as usize;
     let Ok(mut bytes) = Vec::with_capacity(alloc, count * CHUNK_SIZE) else {
@@ -166,9 +184,8 @@ fn read_data<D: Store>(
     requires cart { IsCart cart.0 }
     requires number { number < 2 ^ 52 }
     requires whole { length block.old ≡ 4096 }
-    ensures later { (file : ℕ) → (D.view disk.old).faults file ≤ (D.view disk.new).faults file }
-    ensures cause { DataCause ((D.view disk.old).faults (cart_file cart.0))
-        ((D.view disk.new).faults (cart_file cart.0)) result }
+    ensures cause { FaultCause (cart_file cart.0) (D.view disk.old) (D.view disk.new)
+        (result ≡ Err data_faults.Failed) }
     ensures tells { (D.view disk.new).tells ≡ (D.view disk.old).tells }
     ensures quiet { Told (D.view disk.old).tells (Quiet (D.view disk.old) (D.view disk.new)) }
     ensures holds { OnOk result
@@ -185,32 +202,6 @@ fn read_data<D: Store>(
     }
 }
 
-// Appends the bytes of the chunks of a data block.
-fn append_chunks(block: &[u8], bytes: &mut Vec<u8>) -> Result<(), Memory>
-    requires whole { length block.now ≡ 4096 }
-    requires chunks { (volid : ℕ)
-        × ((number : ℕ) × ((chunks : List ChunkText) × HoldsChunks block.now volid number chunks)) }
-    ensures { (volid number : ℕ) (chunks : List ChunkText)
-        → HoldsChunks block.now volid number chunks
-        → OnOk result (bytes.new.items ≡ bytes.old.items ++ joined chunks) }
-{
-    let mut at = 0;
-    while let Some(chunk) = next_chunk(block, at) {
-        bytes.extend_from_slice(bytes_of(block, &chunk))?;
-        at = chunk.next;
-    }
-    Ok(())
-}
-
-// The bytes of a chunk that was found in the block.
-fn bytes_of<'a>(block: &'a [u8], chunk: &Chunk) -> &'a [u8]
-    requires { chunk.now.start + chunk.now.length ≤ length block.now }
-    ensures { result.now ≡ take chunk.now.length (drop chunk.now.start block.now) }
-{
-    let start = chunk.start as usize;
-    &block[start..start + chunk.length as usize]
-}
-
 /// Writes the file of the cartridge with this number, counted from 1, once all of it was read.
 pub fn get<W: Sink, D: Store>(
     alloc: Global,
@@ -218,25 +209,23 @@ pub fn get<W: Sink, D: Store>(
     number: u64,
     out: &mut W,
     disk: &mut D,
-) -> Result<(), Status>
+) -> Status
     requires cart { IsCart cart.0 }
     requires number { 1 ≤ number }
-    ensures out_later { (W.view out.old).faults ≤ (W.view out.new).faults }
-    ensures disk_later { (file : ℕ)
-        → (D.view disk.old).faults file ≤ (D.view disk.new).faults file }
-    ensures cause { GetsCause cart.0 number (W.view out.old).faults (W.view out.new).faults
-        ((D.view disk.old).faults (cart_file cart.0)) ((D.view disk.new).faults (cart_file cart.0))
-        (status_of result) }
-    ensures quiet { Told (D.view disk.old).tells (Quiet (D.view disk.old) (D.view disk.new)) }
-    ensures judged { Told (D.view disk.old).tells
-        (JudgesRead number ((D.view disk.old).reads (cart_file cart.0)) (status_of result)) }
-    ensures given { Told (W.view out.old).tells
-        (GetWrites (D.view disk.old) cart.0 number (W.view out.old).written (W.view out.new).written
-        (status_of result)) }
+    // Whatever input and clock stand beside.
+    ensures later { (input : SourceView) (clock : ClockView) → Later
+        (world input (W.view out.old) (D.view disk.old) clock)
+        (world input (W.view out.new) (D.view disk.new) clock) }
+    ensures ends { (input : SourceView) (clock : ClockView) → GetEnds cart.0 number
+        (world input (W.view out.old) (D.view disk.old) clock)
+        (world input (W.view out.new) (D.view disk.new) clock) result }
 {
-    let bytes = read_file(alloc, cart, number, disk)?;
+    let bytes = match read_file(alloc, cart, number, disk) {
+        Ok(bytes) => bytes,
+        Err(fault) => return file_status_of(alloc, cart, number, fault),
+    };
     match write_all(out, &bytes) {
-        Ok(()) => Ok(()),
-        Err(_) => Err(Status::WriteFault),
+        Ok(()) => Status::Done,
+        Err(_) => Status::WriteFault,
     }
 }

@@ -1,40 +1,50 @@
-ghost use Rattle.std.specs.Prelude.{◌≡◌, ◌≤◌, ◌<◌, [], length, take, IfOk, vec_len};
-ghost use Rattle.room_base.specs.Faults.{HasCause};
+ghost use Rattle.std.specs.Prelude.{◌≡◌, ◌≤◌, ◌<◌, [], length, take, Err, IfOk, MatchResult};
+ghost use Rattle.std.specs.Prelude.{vec_len};
+ghost use Rattle.room_base.specs.Faults.{HasCause, Rose};
 ghost use Rattle.room_base.specs.Outside.{Told};
 ghost use Rattle.room_top.specs.Put.{HasSize};
-ghost use Rattle.room_top.specs.Stages.{Fills, InputCause, JudgesInput};
+ghost use Rattle.room_top.specs.Stages.{Fills, JudgesInput};
+ghost use Rattle.room_top.specs.declared.input.InputFault.TheVariants as input_faults;
 
-use crate::Status;
 use crate::raw::MAX_FILE_SIZE;
-use room_base::{Failed, Name, Refusal, Source};
+use room_base::{Failed, Source};
 use std::alloc::{AllocError, Global};
+
+/// Why the input isn't taken as a file.
+#[derive(Clone, Copy, Debug, PartialEq, Eq)]
+pub enum InputFault {
+    Memory,
+    /// The input failed.
+    Failed,
+    /// It has no byte.
+    Empty,
+    /// It has more than 257,024 bytes.
+    TooLong,
+}
 
 /// Takes the whole input, which is to have 1 to 257,024 bytes. No more than one byte past that is
 /// taken.
-pub fn take_input<S: Source>(alloc: Global, input: &mut S) -> Result<Vec<u8>, Status>
+pub fn take_input<S: Source>(alloc: Global, input: &mut S) -> Result<Vec<u8>, InputFault>
     ensures later { (S.view input.old).faults ≤ (S.view input.new).faults }
-    ensures cause { InputCause (S.view input.old).faults (S.view input.new).faults result }
+    ensures cause { result ≡ Err input_faults.Failed
+        → Rose (S.view input.old).faults (S.view input.new).faults }
     ensures tells { (S.view input.new).tells ≡ (S.view input.old).tells }
     ensures size { IfOk result (λ bytes. HasSize bytes.items) }
-    ensures judged { Told (S.view input.old).tells (JudgesInput (λ bytes. bytes.items)
-        (S.view input.old).left (S.view input.new).left result) }
+    ensures judged { Told (S.view input.old).tells (MatchResult result
+        (λ bytes. (bytes.items ≡ (S.view input.old).left) × ((S.view input.new).left ≡ []))
+        (JudgesInput (S.view input.old).left (S.view input.new).left)) }
 {
     let Ok(mut buffer) = input_buffer(alloc) else {
-        return Err(Status::Memory);
+        return Err(InputFault::Memory);
     };
     let Ok(taken) = take_up_to(input, &mut buffer) else {
-        return Err(Status::ReadFault);
+        return Err(InputFault::Failed);
     };
     if taken == 0 {
-        let Ok(field) = Name::from_text(alloc, "input") else {
-            return Err(Status::Memory);
-        };
-        return Err(Status::Refused(Refusal::Malformed { field }));
+        return Err(InputFault::Empty);
     }
     if taken > MAX_FILE_SIZE {
-        return Err(Status::Refused(Refusal::TooMany {
-            limit: MAX_FILE_SIZE as u64,
-        }));
+        return Err(InputFault::TooLong);
     }
     buffer.truncate(taken);
     Ok(buffer)

@@ -1,21 +1,20 @@
-ghost use Rattle.std.specs.Prelude.{◌≡◌, ◌≤◌, ◌↔◌, IsTrue};
+ghost use Rattle.std.specs.Prelude.{◌≡◌, ◌≤◌};
 ghost use Rattle.room_base.specs.Numbers.{max_moment};
 ghost use Rattle.volume_block.specs.Valid.{IsLabel};
 ghost use Rattle.volume_store.specs.Writes.{IsCart};
-ghost use Rattle.room_top.specs.Raw.{raw_label, IsRaw};
+ghost use Rattle.room_top.specs.Raw.{raw_label};
 ghost use Rattle.room_top.specs.Put.{blocks_for};
 
 use room_base::{Cart, Moment, Volid};
-use volume_block::{CHUNK_HEAD_SIZE, Label, MAX_CAPACITY, MAX_FILE_BLOCKS, PAYLOAD_SIZE};
+use volume_block::{
+    CHUNK_HEAD_SIZE, FIRST_RAW_VOLID, Label, MAX_CAPACITY, MAX_FILE_BLOCKS, PAYLOAD_SIZE,
+};
 
 /// The most bytes of a raw file: 64 data blocks, each with one chunk.
 pub const MAX_FILE_SIZE: usize = MAX_FILE_BLOCKS as usize * CHUNK_SIZE;
 
 /// The bytes of a file that one data block holds.
 pub const CHUNK_SIZE: usize = PAYLOAD_SIZE - CHUNK_HEAD_SIZE;
-
-/// Raw volumes have numbers from 2^63 on.
-const FIRST_RAW_VOLID: u64 = 1 << 63;
 
 /// The label of a raw cartridge.
 pub fn raw_label_of(cart: Cart, made: Moment) -> Label
@@ -36,13 +35,6 @@ pub fn raw_label_of(cart: Cart, made: Moment) -> Label
         pool_length: 3,
         pool,
     }
-}
-
-/// Whether a volume with this label is raw.
-pub fn is_raw(label: &Label) -> bool
-    ensures { IsTrue result ↔ IsRaw label.now }
-{
-    label.volid.0 >= FIRST_RAW_VOLID
 }
 
 /// How many data blocks so many bytes of a file take.

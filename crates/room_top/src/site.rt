@@ -1,21 +1,21 @@
 //! Finds where the next file of a cartridge goes.
 
-ghost use Rattle.std.specs.Prelude.{◌≡◌, ℕ, ◌≤◌, ◌<◌, ◌^◌, IfOk};
-ghost use Rattle.room_base.specs.Outside.{ClockView, Told};
-ghost use Rattle.room_disk.specs.Disk.{Quiet};
+ghost use Rattle.std.specs.Prelude.{◌≡◌, ◌≢◌, ◌↔◌, ◌+◌, ◌≤◌, ◌<◌, ◌^◌, Err, IsTrue, IfOk, OnOk};
+ghost use Rattle.std.specs.Prelude.{MatchResult};
+ghost use Rattle.room_base.specs.Faults.{HasCause, Rose};
+ghost use Rattle.room_base.specs.Outside.{ClockView, Told, later_moments};
+ghost use Rattle.room_disk.specs.Disk.{Quiet, Settled, FaultCause};
 ghost use Rattle.volume_block.specs.Valid.{IsLabel};
 ghost use Rattle.volume_store.specs.Committed.{HasLabel};
 ghost use Rattle.volume_store.specs.Writes.{cart_file, IsCart};
-ghost use Rattle.room_top.specs.Put.{IsSiteFor, site_number, site_mark, site_volid};
-ghost use Rattle.room_top.specs.Stages.{SiteCause, JudgesSite, SettlesSite, IsNewSite, NeverNew};
-ghost use Rattle.room_top.specs.Stages.{SiteAsks, NextCause, IsPlaceBehind};
+ghost use Rattle.room_top.specs.Put.{IsSite, IsSiteFor, IsNewLabel, blocks_for};
+ghost use Rattle.room_top.specs.Put.{site_number, site_mark, site_volid};
+ghost use Rattle.room_top.specs.Stages.{JudgesSite, IsNext, SiteAsks};
+ghost use Rattle.room_top.specs.declared.site.SiteFault.TheVariants as site_faults;
 
-use crate::Status;
-use crate::raw::{blocks_for, is_raw, raw_label_of};
-use crate::refusals::{damaged, full, occupied};
-use room_base::{Cart, Clock, MAX_MOMENT, Moment, Volid};
+use crate::raw::{blocks_for, raw_label_of};
+use room_base::{Cart, Clock, Failed, MAX_MOMENT, Moment, Volid};
 use room_disk::Store;
-use std::alloc::Global;
 use volume_block::Label;
 use volume_store::{FIRST_MARK, Found, Volume, WalkFault, read_label, walk_marks};
 
@@ -26,6 +26,19 @@ pub enum Site {
     New(Label),
     /// Behind the files of the volume, as the one with this number, counted from 1.
     Next { volume: Volume, number: u64 },
+}
+
+/// Why the next file of a cartridge has no place.
+#[derive(Clone, Copy, Debug, PartialEq, Eq)]
+pub enum SiteFault {
+    DiskFailed,
+    ClockFailed,
+    /// The label, volume 0 and block 0, or a mark isn't valid, or isn't there.
+    Damaged { volid: Volid, block: u64 },
+    /// The cartridge has a label that isn't raw.
+    Occupied,
+    /// There is no room for the file.
+    Full,
 }
 
 impl Site {
@@ -61,116 +74,116 @@ impl Site {
 /// Finds where a file of so many bytes goes. The clock is asked only where a label is to be
 /// written, and nothing is written.
 pub fn find_site<D: Store, C: Clock>(
-    alloc: Global,
     cart: Cart,
     size: usize,
     disk: &mut D,
     clock: &mut C,
-) -> Result<Site, Status>
+) -> Result<Site, SiteFault>
     requires cart { IsCart cart.0 }
     requires size { (1 ≤ size) × (size ≤ 257024) }
-    ensures disk_later { (file : ℕ)
-        → (D.view disk.old).faults file ≤ (D.view disk.new).faults file }
+    ensures disk_cause { FaultCause (cart_file cart.0) (D.view disk.old) (D.view disk.new)
+        (result ≡ Err site_faults.DiskFailed) }
     ensures clock_later { (C.view clock.old).faults ≤ (C.view clock.new).faults }
-    ensures cause { SiteCause cart.0 ((D.view disk.old).faults (cart_file cart.0))
-        ((D.view disk.new).faults (cart_file cart.0))
-        (C.view clock.old).faults (C.view clock.new).faults result }
+    ensures clock_cause { result ≡ Err site_faults.ClockFailed
+        → Rose (C.view clock.old).faults (C.view clock.new).faults }
     ensures disk_tells { (D.view disk.new).tells ≡ (D.view disk.old).tells }
     ensures clock_tells { (C.view clock.new).tells ≡ (C.view clock.old).tells }
     ensures ready { IfOk result (IsSiteFor cart.0 size) }
     ensures quiet { Told (D.view disk.old).tells (Quiet (D.view disk.old) (D.view disk.new)) }
     ensures settled { Told (D.view disk.old).tells
-        (SettlesSite (D.view disk.new) (cart_file cart.0) result) }
-    ensures judged { Told (D.view disk.old).tells
-        (JudgesSite (C.view clock.old) cart.0 size
-        ((D.view disk.old).reads (cart_file cart.0)) result) }
+        (OnOk result (Settled (D.view disk.new) (cart_file cart.0))) }
+    ensures judged { Told (D.view disk.old).tells (MatchResult result
+        (IsSite (C.view clock.old) cart.0 ((D.view disk.old).reads (cart_file cart.0)))
+        (JudgesSite size ((D.view disk.old).reads (cart_file cart.0)))) }
     ensures asked { Told (C.view clock.old).tells
         (SiteAsks (C.view clock.old).moments (C.view clock.new).moments result) }
 {
     let Ok(found) = read_label(disk, cart) else {
-        return Err(Status::DiskFault);
+        return Err(SiteFault::DiskFailed);
     };
     match found {
-        Found::Blank | Found::Closed => new_site(cart, size, clock),
-        Found::Damaged(_) => Err(damaged(Volid(0), 0)),
-        Found::Labelled(label) => next_site(alloc, cart, &label, size, disk),
+        Found::Blank | Found::Closed => match new_label(cart, clock) {
+            Ok(label) => Ok(Site::New(label)),
+            Err(_) => Err(SiteFault::ClockFailed),
+        },
+        Found::Damaged(_) => Err(SiteFault::Damaged {
+            volid: Volid(0),
+            block: 0,
+        }),
+        Found::Labelled(label) => next_site(cart, &label, size, disk),
     }
 }
 
-// The site of a first file, on a cartridge that gets a label.
-fn new_site<C: Clock>(cart: Cart, size: usize, clock: &mut C) -> Result<Site, Status>
-    requires cart { IsCart cart.0 }
-    requires size { (1 ≤ size) × (size ≤ 257024) }
-    ensures later { (C.view clock.old).faults ≤ (C.view clock.new).faults }
-    ensures cause { IsNewSite (C.view clock.old) cart.0 size (C.view clock.old).faults
-        (C.view clock.new).faults result }
+// The label of a cartridge that has none.
+fn new_label<C: Clock>(cart: Cart, clock: &mut C) -> Result<Label, Failed>
+    requires { IsCart cart.0 }
+    ensures cause { HasCause (C.view clock.old).faults (C.view clock.new).faults result }
     ensures tells { (C.view clock.new).tells ≡ (C.view clock.old).tells }
-    ensures asked { Told (C.view clock.old).tells
-        (SiteAsks (C.view clock.old).moments (C.view clock.new).moments result) }
+    ensures allowed { IfOk result IsLabel }
+    ensures named { IfOk result (IsNewLabel (C.view clock.old) cart.0) }
+    ensures asked { Told (C.view clock.old).tells (MatchResult result
+        (λ _. (C.view clock.new).moments ≡ later_moments (C.view clock.old).moments)
+        (λ _. (C.view clock.new).moments ≡ (C.view clock.old).moments)) }
 {
-    let Ok(now) = clock.now() else {
-        return Err(Status::ClockFault);
-    };
-    Ok(Site::New(raw_label_of(cart, Moment(now.0.min(MAX_MOMENT.0)))))
+    let now = clock.now()?;
+    Ok(raw_label_of(cart, Moment(now.0.min(MAX_MOMENT.0))))
 }
 
 // The site behind the files of a cartridge that has this label.
 fn next_site<D: Store>(
-    alloc: Global,
     cart: Cart,
     label: &Label,
     size: usize,
     disk: &mut D,
-) -> Result<Site, Status>
+) -> Result<Site, SiteFault>
     requires cart { IsCart cart.0 }
     requires size { (1 ≤ size) × (size ≤ 257024) }
     requires label { IsLabel label.now }
-    ensures later { (file : ℕ) → (D.view disk.old).faults file ≤ (D.view disk.new).faults file }
-    ensures cause { NextCause cart.0 ((D.view disk.old).faults (cart_file cart.0))
-        ((D.view disk.new).faults (cart_file cart.0)) result }
+    ensures cause { FaultCause (cart_file cart.0) (D.view disk.old) (D.view disk.new)
+        (result ≡ Err site_faults.DiskFailed) }
+    ensures unasked { result ≢ Err site_faults.ClockFailed }
     ensures tells { (D.view disk.new).tells ≡ (D.view disk.old).tells }
     ensures ready { IfOk result (IsSiteFor cart.0 size) }
+    ensures behind { IfOk result IsNext }
     ensures quiet { Told (D.view disk.old).tells (Quiet (D.view disk.old) (D.view disk.new)) }
     ensures judged { Told (D.view disk.old).tells
         (HasLabel ((D.view disk.old).reads (cart_file cart.0)) label.now
-        → (clock : ClockView)
-        → JudgesSite clock cart.0 size ((D.view disk.old).reads (cart_file cart.0)) result) }
-    ensures behind { NeverNew result }
+        → (clock : ClockView) → MatchResult result
+        (IsSite clock cart.0 ((D.view disk.old).reads (cart_file cart.0)))
+        (JudgesSite size ((D.view disk.old).reads (cart_file cart.0)))) }
 {
-    if !is_raw(label) {
-        return Err(occupied(alloc, cart));
+    if !label.is_raw() {
+        return Err(SiteFault::Occupied);
     }
-    match walk_marks(disk, cart, label.volid, 0) {
-        Ok(walk) => place_behind(alloc, cart, label, walk.end, walk.files, size),
-        Err(WalkFault::BadMark { number }) => Err(damaged(label.volid, number)),
-        Err(WalkFault::Failed) => Err(Status::DiskFault),
+    let walk = match walk_marks(disk, cart, label.volid, 0) {
+        Ok(walk) => walk,
+        Err(WalkFault::BadMark { number }) => {
+            return Err(SiteFault::Damaged {
+                volid: label.volid,
+                block: number,
+            });
+        }
+        Err(WalkFault::Failed) => return Err(SiteFault::DiskFailed),
+    };
+    if !has_room(label, walk.end, size) {
+        return Err(SiteFault::Full);
     }
+    let volume = Volume {
+        label: *label,
+        cart,
+        mark: walk.end,
+    };
+    Ok(Site::Next {
+        volume,
+        number: walk.files + 1,
+    })
 }
 
-// The site at a mark place behind so many files, where there is room.
-fn place_behind(
-    alloc: Global,
-    cart: Cart,
-    label: &Label,
-    mark: u64,
-    files: u64,
-    size: usize,
-) -> Result<Site, Status>
-    requires label { IsLabel label.now }
-    requires size { (1 ≤ size) × (size ≤ 257024) }
-    requires mark { (1 ≤ mark) × (mark < 2 ^ 52) }
-    requires files { files < mark }
-    ensures { IsPlaceBehind cart.0 label.now mark files size result }
+// Whether a file of so many bytes has room at this mark place.
+fn has_room(label: &Label, mark: u64, size: usize) -> bool
+    requires size { size ≤ 257024 }
+    requires mark { mark < 2 ^ 52 }
+    ensures { IsTrue result ↔ (mark + blocks_for size + 2 ≤ label.now.capacity) }
 {
-    if mark + u64::from(blocks_for(size)) + 2 > u64::from(label.capacity) {
-        return Err(full(alloc));
-    }
-    Ok(Site::Next {
-        volume: Volume {
-            label: *label,
-            cart,
-            mark,
-        },
-        number: files + 1,
-    })
+    mark + u64::from(blocks_for(size)) + 2 <= u64::from(label.capacity)
 }

@@ -1,17 +1,19 @@
 ghost use Rattle.std.specs.Prelude.{◌≡◌, ◌≤◌, ◌↔◌, ◌∷◌, [], ℕ, List, IsTrue, map, string_bytes};
 ghost use Rattle.room_base.specs.Outside.{Told};
-ghost use Rattle.room_top.specs.Start.{AsksFor, IsFolderOf, IsToldBy, TellsText, IsStarted};
+ghost use Rattle.room_top.specs.Numbers.{exit_number};
+ghost use Rattle.room_top.specs.Report.{Reports};
+ghost use Rattle.room_top.specs.Start.{AsksFor, IsFolderOf, PrintsText, Starts};
+ghost use Rattle.room_top.specs.declared.status.Status.{Status};
 
 use crate::Status;
 use crate::report::report;
 use crate::run::run;
 use crate::words::misfit;
-use room_base::{Name, NameFault, RealClock, Sink, StdSink, StdSource, write_all};
+use room_base::{Name, NameFault, RealClock, Sink, StdSource, write_all};
 use room_disk::FolderStore;
 use std::alloc::Global;
 use std::env;
 use std::fs::File;
-use std::io::Write;
 use std::rt::{Clock, Env, Files};
 
 /// The longest folder word, in bytes.
@@ -30,21 +32,39 @@ The exit status is 0 where all was done; else a line on standard error says why 
 
 const VERSION: &[u8] = b"room 0.1.0\n";
 
-/// Reads the program's arguments, of which the first names the folder, and does what the others
-/// ask, over the system's own objects.
-pub fn start<R, O, E>(rt: &R, out: O, err: E) -> Status
+/// Reads the program's arguments, of which the first names the folder, does what the others ask,
+/// over the system's own objects, and answers the program's exit status. The arguments aren't told,
+/// so the contract says that there are some.
+pub fn start<R, W, E>(rt: &R, out: &mut W, err: &mut E) -> u8
 where
     R: Env + Files<File = File> + Clock + Input + AllocGlobal,
-    O: Write + Drop,
-    E: Write + Drop,
-    ensures { (words : List (List ℕ)) × IsStarted words result }
+    W: Sink,
+    E: Sink,
+    ensures out_later { (W.view out.old).faults ≤ (W.view out.new).faults }
+    ensures err_later { (E.view err.old).faults ≤ (E.view err.new).faults }
+    ensures started { (words : List (List ℕ)) × ((answer : Status)
+        × (result ≡ exit_number answer)
+        × Starts HELP.now VERSION.now words (W.view out.old) (W.view out.new)
+        (E.view err.old) (E.view err.new) answer) }
+{
+    serve(rt, out, err).number()
+}
+
+// Does what the arguments ask for.
+fn serve<R, W, E>(rt: &R, out: &mut W, err: &mut E) -> Status
+where
+    R: Env + Files<File = File> + Clock + Input + AllocGlobal,
+    W: Sink,
+    E: Sink,
+    ensures out_later { (W.view out.old).faults ≤ (W.view out.new).faults }
+    ensures err_later { (E.view err.old).faults ≤ (E.view err.new).faults }
+    ensures started { (words : List (List ℕ)) × Starts HELP.now VERSION.now words
+        (W.view out.old) (W.view out.new) (E.view err.old) (E.view err.new) result }
 {
     let alloc = rt.alloc();
-    let mut out = StdSink::new(out);
-    let mut err = StdSink::new(err);
     match read_arguments(rt) {
-        Ok(Request::Help) => write_text(&mut out, &mut err, HELP),
-        Ok(Request::Version) => write_text(&mut out, &mut err, VERSION),
+        Ok(Request::Help) => write_text(out, err, HELP),
+        Ok(Request::Version) => write_text(out, err, VERSION),
         Ok(Request::Run { folder, words }) => {
             let mut input = StdSource::new(rt.reader());
             let mut disk = FolderStore::new(rt, alloc, folder);
@@ -53,14 +73,14 @@ where
                 alloc,
                 words.as_slice(),
                 &mut input,
-                &mut out,
-                &mut err,
+                out,
+                err,
                 &mut disk,
                 &mut clock,
             )
         }
         Err(status) => {
-            report(&mut err, &status);
+            report(err, &status);
             status
         }
     }
@@ -133,9 +153,9 @@ fn folder_of(alloc: Global, word: &str) -> Result<Name, Status>
 fn write_text<W: Sink, E: Sink>(out: &mut W, err: &mut E, text: &[u8]) -> Status
     ensures out_later { (W.view out.old).faults ≤ (W.view out.new).faults }
     ensures err_later { (E.view err.old).faults ≤ (E.view err.new).faults }
-    ensures cause { IsToldBy (W.view out.old).faults (W.view out.new).faults result }
-    ensures written { Told (W.view out.old).tells
-        (TellsText (W.view out.old).written (W.view out.new).written text.now result) }
+    ensures written { PrintsText text.now (W.view out.old) (W.view out.new) result }
+    ensures reported { Told (E.view err.old).tells
+        (Reports result (E.view err.old) (E.view err.new)) }
 {
     if write_all(out, text).is_ok() {
         return Status::Done;

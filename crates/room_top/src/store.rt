@@ -1,6 +1,7 @@
-ghost use Rattle.std.specs.Prelude.{◌≡◌, ◌+◌, ◌≤◌, ℕ, [], List, length, OnOk};
+ghost use Rattle.std.specs.Prelude.{◌≡◌, ◌+◌, ◌≤◌, ℕ, [], List, length, Err, OnOk};
 ghost use Rattle.room_base.specs.Outside.{ClockView, Told};
-ghost use Rattle.room_disk.specs.Disk.{Others, Settled, Leaves, OnFile, FileCause};
+ghost use Rattle.room_disk.specs.Disk.{Quiet, Others, Settled, Leaves, OnFile};
+ghost use Rattle.room_disk.specs.Disk.{FileCause, FaultCause};
 ghost use Rattle.volume_block.specs.Chunks.{ChunkText};
 ghost use Rattle.volume_block.specs.Valid.{IsLabel};
 ghost use Rattle.volume_block.specs.Region.{IsSealed};
@@ -9,9 +10,8 @@ ghost use Rattle.volume_store.specs.Writes.{cart_file, IsCart, with_file};
 ghost use Rattle.room_top.specs.Raw.{JoinTo};
 ghost use Rattle.room_top.specs.Put.{HasSize, HasOneFileMore, IsPut, IsFirstFile, IsSite};
 ghost use Rattle.room_top.specs.Put.{IsSiteFor, HasRoom, site_number, site_mark, site_volid};
-ghost use Rattle.room_top.specs.Stages.{StoreCause, Stores};
+ghost use Rattle.room_top.specs.declared.store.StoreFault.TheVariants as store_faults;
 
-use crate::Status;
 use crate::site::Site;
 use chunk_mux::MuxBuffer;
 use room_base::{Cart, CopyNo, Failed, Ssid};
@@ -20,6 +20,15 @@ use std::alloc::Global;
 use volume_block::Label;
 use volume_store::{FIRST_MARK, Volume, write_label};
 
+/// Why a file isn't stored.
+#[derive(Clone, Copy, Debug, PartialEq, Eq)]
+pub enum StoreFault {
+    /// Nothing was written.
+    Memory,
+    /// The disk failed. The file may stand on the cartridge nevertheless.
+    Failed,
+}
+
 /// Makes the bytes the file of the site. All memory is taken before the first write.
 pub fn store_file<D: Store>(
     alloc: Global,
@@ -27,21 +36,25 @@ pub fn store_file<D: Store>(
     site: &Site,
     bytes: &[u8],
     disk: &mut D,
-) -> Result<(), Status>
+) -> Result<(), StoreFault>
     requires cart { IsCart cart.0 }
     requires size { HasSize bytes.now }
     requires ready { IsSiteFor cart.0 (length bytes.now) site.now }
-    ensures later { (file : ℕ) → (D.view disk.old).faults file ≤ (D.view disk.new).faults file }
-    ensures cause { StoreCause ((D.view disk.old).faults (cart_file cart.0))
-        ((D.view disk.new).faults (cart_file cart.0)) result }
+    ensures cause { FaultCause (cart_file cart.0) (D.view disk.old) (D.view disk.new)
+        (result ≡ Err store_faults.Failed) }
     ensures tells { (D.view disk.new).tells ≡ (D.view disk.old).tells }
     ensures others { Told (D.view disk.old).tells
         (Others (cart_file cart.0) (D.view disk.old) (D.view disk.new)) }
+    ensures unwritten { Told (D.view disk.old).tells
+        (result ≡ Err store_faults.Memory → Quiet (D.view disk.old) (D.view disk.new)) }
     ensures stored { Told (D.view disk.old).tells
         ((clock : ClockView)
         → IsSite clock cart.0 ((D.view disk.old).reads (cart_file cart.0)) site.now
-        → Stores (cart_file cart.0) clock cart.0 bytes.now (site_number site.now) (D.view disk.old)
-        (D.view disk.new) result) }
+        → OnOk result (HasOneFileMore clock cart.0 bytes.now
+        ((D.view disk.old).reads (cart_file cart.0)) (site_number site.now)
+        ((D.view disk.new).reads (cart_file cart.0)))) }
+    ensures settled { Told (D.view disk.old).tells
+        (OnOk result (Settled (D.view disk.new) (cart_file cart.0))) }
     ensures moments { Told (D.view disk.old).tells
         ((clock : ClockView)
         → IsSite clock cart.0 ((D.view disk.old).reads (cart_file cart.0)) site.now
@@ -51,7 +64,7 @@ pub fn store_file<D: Store>(
         (D.view disk.old))) }
 {
     let Ok(mut buffer) = MuxBuffer::new(alloc) else {
-        return Err(Status::Memory);
+        return Err(StoreFault::Memory);
     };
     let number = site.number();
     buffer.push(Ssid(number), CopyNo(1), 0, bytes);
@@ -59,7 +72,7 @@ pub fn store_file<D: Store>(
     let region = buffer.seal(site.volid(), site.mark());
     match store_region(disk, cart, site, region, count) {
         Ok(()) => Ok(()),
-        Err(_) => Err(Status::DiskFault),
+        Err(_) => Err(StoreFault::Failed),
     }
 }
 

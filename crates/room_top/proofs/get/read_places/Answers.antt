@@ -1,22 +1,13 @@
-use Rattle.std.proofs.Common.{rules, Vec, Global, Err, ◌≡◌, ◌∙◌, ◌+◌, ℕ, List, sym, ap, subst, arith}
+use Rattle.std.proofs.Common.{rules, Err, ◌≡◌, ◌∙◌, ◌+◌, ℕ, List, sym, ap, subst, arith}
 use Rattle.std.specs.Prelude.{IsTrue}
 use Rattle.volume_block.specs.Chunks.{ChunkText}
 use Rattle.volume_block.specs.Valid.{HoldsChunks}
 use Rattle.volume_store.specs.Committed.{block_at}
 use Rattle.volume_store.specs.Writes.{cart_file}
 use Rattle.room_disk.proofs.Runs.{quiet_then}
-use Rattle.room_top.specs.Stages.{DataCause, IsDataRead, GivesPlaces}
-use Rattle.room_top.proofs.GetRuns.{read_more, data_later, data_given}
+use Rattle.room_top.specs.Stages.{IsDataRead, JudgesPlaces}
+use Rattle.room_top.proofs.GetRuns.{read_more, data_given}
 use Rattle.room_top.proofs.get.read_places.Goals as goal
-
-pub returns-in_err-read_data-clause-cause : goal.returns-in_err-read_data-clause-cause
-returns-in_err-read_data-clause-cause g c =
-    let file = cart_file c.args.cart.0 in
-    let fault = c.in_err-read_data.field-0.0 in
-    let fact : DataCause {T = Vec ℕ Global} ((g.D.Store.view c.args.disk.now).faults file) ((g.D.Store.view c.read_data.new.disk).faults file) (Err fault) =
-    data_later (Unit {0}) (Vec ℕ Global) ((g.D.Store.view c.args.disk.now).faults file) ((g.D.Store.view c.loop-index.disk).faults file)
-    ((g.D.Store.view c.read_data.new.disk).faults file) fault (c.loop-index.invariant.0 file) c.in_err-read_data.ensures.cause in
-    search rules
 
 pub returns-in_err-read_data-clause-given : goal.returns-in_err-read_data-clause-given
 returns-in_err-read_data-clause-given g c = λ told file mark count are.
@@ -29,8 +20,8 @@ returns-in_err-read_data-clause-given g c = λ told file mark count are.
     let kept : here.reads number ≡ old.reads number = (c.loop-index.invariant.2 told).reads number in
     let Disk : List ℕ → Type 0 = λ (disk : List ℕ). IsDataRead disk c.args.volid.0 (c.args.place.mark + 1 + index) c.read_data.new.block (Err fault) in
     let Mark : ℕ → Type 0 = λ (place : ℕ). IsDataRead (old.reads number) c.args.volid.0 (place + 1 + index) c.read_data.new.block (Err fault) in
-    let fact : GivesPlaces {T = Vec ℕ Global} (λ bytes. bytes.items) file (Err fault) =
-    data_given {T = Vec ℕ Global} (λ bytes. bytes.items) (old.reads number) c.args.volid.0 index c.loop-index.bytes.items c.read_data.new.block file fault
+    let fact : JudgesPlaces file fault =
+    data_given (old.reads number) c.args.volid.0 index c.loop-index.bytes.items c.read_data.new.block file fault
     (c.loop-index.invariant.3 told file mark count are) (omega (arith, c.loop-index-test.true, count)) are
     (subst Mark mark (subst Disk kept (c.in_err-read_data.ensures.read told_here))) in
     search rules
@@ -42,7 +33,7 @@ loop-index-preserved g c =
     let old = g.D.Store.view c.args.disk.now in
     let here = g.D.Store.view c.loop-index.disk in
     let new = g.D.Store.view c.read_data.new.disk in (
-      λ other. omega (arith, c.loop-index.invariant.0 other, c.in_ok-read_data.ensures.later other),
+      λ other. omega (arith, c.loop-index.invariant.0 other, c.in_ok-read_data.ensures.cause.later other),
       c.in_ok-read_data.ensures.tells ∙ c.loop-index.invariant.1,
       λ told. (let told_here : IsTrue here.tells = rw c.loop-index.invariant.1 told in
           quiet_then old here new (c.loop-index.invariant.2 told) (c.in_ok-read_data.ensures.quiet told_here)),
@@ -59,5 +50,5 @@ loop-index-preserved g c =
           (subst Number place (subst Held block c.in_ok-read_data.ensures.holds))
           (λ chunks held.
           let Block : List ℕ → Type 0 = λ (bytes : List ℕ). HoldsChunks bytes c.args.volid.0 (file.mark + 1 + index) chunks in
-          c.in-Ok-append_chunks.ensures c.args.volid.0 (file.mark + 1 + index) chunks (subst Block (sym block) held))),
+          c.in-Ok-append_chunks.ensures.appended c.args.volid.0 (file.mark + 1 + index) chunks (subst Block (sym block) held))),
     )

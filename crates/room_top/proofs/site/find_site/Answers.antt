@@ -1,7 +1,8 @@
 use Rattle.std.proofs.Common.{List, ℕ, subst}
-use Rattle.std.specs.Prelude.{IsTrue}
+use Rattle.std.specs.Prelude.{IsTrue, MatchResult}
 use Rattle.volume_store.specs.Committed.{HasLabel}
 use Rattle.volume_store.specs.Writes.{cart_file}
+use Rattle.room_top.specs.Put.{IsSite}
 use Rattle.room_top.specs.Stages.{JudgesSite}
 use Rattle.room_top.proofs.site.find_site.Goals as goal
 
@@ -15,5 +16,5 @@ returns-in-Labelled-clause-judged g c = λ told.
     let told_mid : IsTrue mid.tells = rw c.in-Ok.ensures.tells told in
     let label : HasLabel (old.reads file) found = rw c.in-Labelled.is at (c.in-Ok.ensures.found told) in
     let P : List ℕ → Type 0 = λ (bytes : List ℕ). HasLabel bytes found
-    → JudgesSite clock c.args.cart.0 c.args.size bytes c.next_site.result in
+    → MatchResult c.next_site.result (IsSite clock c.args.cart.0 bytes) (JudgesSite c.args.size bytes) in
     subst P ((c.in-Ok.ensures.quiet told).reads file) (λ has. c.next_site.ensures.judged told_mid has clock) label

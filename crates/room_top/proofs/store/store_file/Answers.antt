@@ -38,7 +38,7 @@ returns-in-Ok-store_region-clause-stored g c = λ told clock site.
     let M : ℕ → Type 0 = λ (m : ℕ). IsSealed (site_volid c.args.site.now) m blocks c.seal-region.result.now in
     let sealed : IsSealed (site_volid c.args.site.now) (site_mark c.args.site.now) blocks c.seal-region.result.now =
     subst M c.mark.ensures (subst V c.volid.ensures c.seal-region.ensures.sealed) in
-    (c.in-Ok-store_region.ensures.stored told clock blocks bytes sealed joins site, c.in-Ok-store_region.ensures.settled told)
+    c.in-Ok-store_region.ensures.stored told clock blocks bytes sealed joins site
 
 pub returns-in-Ok-store_region-clause-moments : goal.returns-in-Ok-store_region-clause-moments
 returns-in-Ok-store_region-clause-moments g c = λ told clock site settled.
