@@ -15,66 +15,60 @@ fn folder(rt: HostRuntime) -> Result<(), Fail> {
         fs::remove_dir_all(&rt, FOLDER)?;
     }
     fs::create_dir(&rt, FOLDER)?;
-    in_folder(&rt)?;
+    let name = Name::read(rt.alloc(), FOLDER.as_bytes(), 64)?;
+    let mut store = FolderStore::new(&rt, rt.alloc(), name);
+    in_folder(&rt, &mut store)?;
     locks(&rt)?;
     fs::remove_dir_all(&rt, FOLDER)?;
     Ok(())
 }
 
-fn in_folder<R: Abort + AllocGlobal + Files<File = File>>(rt: &R) -> Result<(), Fail> {
-    let mut store = FolderStore::new(
-        rt,
-        rt.alloc(),
-        Name::read(rt.alloc(), FOLDER.as_bytes(), 64)?,
-    );
-    assert_eq!(rt; len(&mut store, 0)?, 0);
-    sync(&mut store, 0)?;
+fn in_folder<R: Abort + Files<File = File>, D: Store>(rt: &R, store: &mut D) -> Result<(), Fail> {
+    assert_eq!(rt; len(store, 0)?, 0);
+    sync(store, 0)?;
     assert!(rt;
         fs::metadata(rt, "room_disk_test_folder/journal.0").is_err(),
         "it isn't made"
     );
-    write(&mut store, 257, 2, &[1, 2, 3])?;
-    write(&mut store, 257, 8, &[])?;
-    sync(&mut store, 257)?;
+    write(store, 257, 2, &[1, 2, 3])?;
+    write(store, 257, 8, &[])?;
+    sync(store, 257)?;
     assert_eq!(rt;
         fs::metadata(rt, "room_disk_test_folder/cart.256")?.len(),
         8
     );
-    write(&mut store, 1, 0, &[7; 5])?;
+    write(store, 1, 0, &[7; 5])?;
     store.cut(1, 4)?;
     assert_eq!(rt;
         fs::metadata(rt, "room_disk_test_folder/journal.1")?.len(),
         4
     );
     let mut into = [9; 8];
-    assert_eq!(rt; read(&mut store, 257, 1, &mut into)?, 7);
+    assert_eq!(rt; read(store, 257, 1, &mut into)?, 7);
     assert_eq!(rt; into, [0, 1, 2, 3, 0, 0, 0, 9]);
-    assert_eq!(rt; read(&mut store, 257, u64::MAX, &mut into)?, 0);
+    assert_eq!(rt; read(store, 257, u64::MAX, &mut into)?, 0);
     assert!(rt;
-        write(&mut store, 257, 9_223_372_036_854_775_807, &[1]).is_err(),
+        write(store, 257, 9_223_372_036_854_775_807, &[1]).is_err(),
         "past the last place"
     );
-    assert!(rt; len(&mut store, 258).is_err(), "no such file");
+    assert!(rt; len(store, 258).is_err(), "no such file");
     Ok(())
-}
-
-fn store_in<'a, R: AllocGlobal + Files<File = File>>(
-    rt: &'a R,
-    folder: &str,
-) -> Result<FolderStore<SystemFolder<&'a R>>, Fail> {
-    let name = Name::read(rt.alloc(), folder.as_bytes(), 64)?;
-    Ok(FolderStore::new(rt, rt.alloc(), name))
 }
 
 #[test]
 fn no_folder(rt: HostRuntime) -> Result<(), Fail> {
-    let mut store = store_in(&rt, "room_disk_no_folder")?;
-    let mut into = [9; 8];
-    assert!(rt; len(&mut store, 2).is_err(), "a length");
-    assert!(rt; read(&mut store, 2, 0, &mut into).is_err(), "a read");
-    assert!(rt; write(&mut store, 2, 0, &[1]).is_err(), "a write");
-    assert!(rt; sync(&mut store, 2).is_err(), "a sync");
+    let name = Name::read(rt.alloc(), b"room_disk_no_folder", 64)?;
+    let mut store = FolderStore::new(&rt, rt.alloc(), name);
+    all_fail(&rt, &mut store);
     Ok(())
+}
+
+fn all_fail<R: Abort, D: Store>(rt: &R, store: &mut D) {
+    let mut into = [9; 8];
+    assert!(rt; len(store, 2).is_err(), "a length");
+    assert!(rt; read(store, 2, 0, &mut into).is_err(), "a read");
+    assert!(rt; write(store, 2, 0, &[1]).is_err(), "a write");
+    assert!(rt; sync(store, 2).is_err(), "a sync");
 }
 
 fn locks<R: Abort + AllocGlobal + Files<File = File>>(rt: &R) -> Result<(), Fail> {
@@ -105,25 +99,29 @@ fn locks<R: Abort + AllocGlobal + Files<File = File>>(rt: &R) -> Result<(), Fail
 fn in_memory(rt: HostRuntime) -> Result<(), Fail> {
     let folder = MemFolder::new(rt.alloc(), vec![in rt.alloc(); 9, 12, 14]?);
     let mut store = FolderStore::over(rt.alloc(), folder);
+    calls_fail_as_listed(&rt, &mut store)
+}
+
+fn calls_fail_as_listed<R: Abort, D: Store>(rt: &R, store: &mut D) -> Result<(), Fail> {
     let mut into = [9; 8];
-    write(&mut store, 2, 0, &[1, 2, 3, 4])?;
-    sync(&mut store, 2)?;
-    assert_eq!(rt; len(&mut store, 2)?, 4);
-    assert_eq!(rt; read(&mut store, 2, 0, &mut into)?, 4);
+    write(store, 2, 0, &[1, 2, 3, 4])?;
+    sync(store, 2)?;
+    assert_eq!(rt; len(store, 2)?, 4);
+    assert_eq!(rt; read(store, 2, 0, &mut into)?, 4);
     assert_eq!(rt; into, [1, 2, 3, 4, 9, 9, 9, 9]);
-    assert!(rt; read(&mut store, 2, 0, &mut into).is_err(), "a read fails");
-    assert_eq!(rt; read(&mut store, 2, 1, &mut into)?, 3);
-    assert!(rt; write(&mut store, 2, 4, &[5]).is_err(), "a write fails");
-    write(&mut store, 2, 4, &[5])?;
-    assert!(rt; sync(&mut store, 2).is_err(), "a sync fails");
-    assert!(rt; sync(&mut store, 2).is_err(), "a later sync");
-    assert!(rt; len(&mut store, 2).is_err(), "a later length");
-    assert!(rt; write(&mut store, 2, 4, &[5]).is_err(), "a later write");
-    write(&mut store, 3, 2, &[])?;
-    sync(&mut store, 3)?;
-    assert_eq!(rt; len(&mut store, 3)?, 2, "another file");
-    assert_eq!(rt; len(&mut store, 4)?, 0, "a file that isn't there");
-    sync(&mut store, 4)?;
+    assert!(rt; read(store, 2, 0, &mut into).is_err(), "a read fails");
+    assert_eq!(rt; read(store, 2, 1, &mut into)?, 3);
+    assert!(rt; write(store, 2, 4, &[5]).is_err(), "a write fails");
+    write(store, 2, 4, &[5])?;
+    assert!(rt; sync(store, 2).is_err(), "a sync fails");
+    assert!(rt; sync(store, 2).is_err(), "a later sync");
+    assert!(rt; len(store, 2).is_err(), "a later length");
+    assert!(rt; write(store, 2, 4, &[5]).is_err(), "a later write");
+    write(store, 3, 2, &[])?;
+    sync(store, 3)?;
+    assert_eq!(rt; len(store, 3)?, 2, "another file");
+    assert_eq!(rt; len(store, 4)?, 0, "a file that isn't there");
+    sync(store, 4)?;
     Ok(())
 }
 

@@ -35,11 +35,7 @@ const VERSION: &[u8] = b"room 0.1.0\n";
 /// Reads the program's arguments, of which the first names the folder, does what the others ask,
 /// over the system's own objects, and answers the program's exit status. The arguments aren't told,
 /// so the contract says that there are some.
-pub fn start<R, W, E>(rt: &R, out: &mut W, err: &mut E) -> u8
-where
-    R: Env + Files<File = File> + Clock + Input + AllocGlobal,
-    W: Sink,
-    E: Sink,
+pub fn start<W: Sink, E: Sink>(rt: &HostRuntime, out: &mut W, err: &mut E) -> u8
     ensures out_later { (W.view out.old).faults ≤ (W.view out.new).faults }
     ensures err_later { (E.view err.old).faults ≤ (E.view err.new).faults }
     ensures started { (words : List (List ℕ)) × ((answer : Status)
@@ -51,11 +47,7 @@ where
 }
 
 // Does what the arguments ask for.
-fn serve<R, W, E>(rt: &R, out: &mut W, err: &mut E) -> Status
-where
-    R: Env + Files<File = File> + Clock + Input + AllocGlobal,
-    W: Sink,
-    E: Sink,
+fn serve<W: Sink, E: Sink>(rt: &HostRuntime, out: &mut W, err: &mut E) -> Status
     ensures out_later { (W.view out.old).faults ≤ (W.view out.new).faults }
     ensures err_later { (E.view err.old).faults ≤ (E.view err.new).faults }
     ensures started { (words : List (List ℕ)) × Starts HELP.now VERSION.now words
