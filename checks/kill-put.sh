@@ -90,7 +90,7 @@ look_at_second() {
 kill_each() {
     local call number status room killed=0
     whole=0
-    for call in pwrite64 fsync; do
+    for call in pwrite64 fdatasync fsync; do
         for number in $(seq 1 40); do
             room="$1 put, $call $number"
             mkdir "$room"

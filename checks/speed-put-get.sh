@@ -165,11 +165,11 @@ fi
 calls() {
     local name=$1 promised="$2 $3 $4" input=$5 reads writes syncs
     shift 5
-    strace -qq -y -o calls -e trace=pread64,pwrite64,fsync "$program" "a room" "$@" <"$input" >out ||
+    strace -qq -y -o calls -e trace=pread64,pwrite64,fsync,fdatasync "$program" "a room" "$@" <"$input" >out ||
         fail "$name: ended with $?"
     reads=$(grep -c '^pread64(.*/cart\.[0-9]*>' calls)
     writes=$(grep -c '^pwrite64(' calls)
-    syncs=$(grep -c '^fsync(' calls)
+    syncs=$(grep -cE '^f(data)?sync\(' calls)
     printf '%-45s %7d %7d %7d\n' "$name" "$reads" "$writes" "$syncs"
     [ "$reads $writes $syncs" = "$promised" ] || fail "$name: promised are $promised"
     [ "$(grep '^pread64(.*/cart\.[0-9]*>' calls | grep -vc ', 4096, [0-9]*) = 4096$')" = 0 ] ||
