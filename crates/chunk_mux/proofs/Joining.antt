@@ -4,19 +4,13 @@ use Rattle.std.proofs.lemmas.Bool.{cases_lt}
 use Rattle.std.proofs.lemmas.List.{append-nil, length-take-le, length-drop, nil_from_length, take-append-drop}
 use Rattle.std.proofs.lemmas.List.Concat.{flat_map-append}
 use Rattle.std.proofs.lemmas.List.Elements.{filter-append, All-from_recursion}
-use Rattle.std.specs.Int.{div_ceil}
 use Rattle.std.specs.List.{flat_map, filter}
 use Rattle.volume_block.specs.Chunks.{ChunkText, all_chunks, JoinFrom}
-use Rattle.chunk_mux.specs.Packing.{chunk_size, room_behind, chunk_of, new_blocks, packed, pack, fits_in}
+use Rattle.chunk_mux.specs.Packing.{chunk_size, room_behind, chunk_of, new_blocks, packed}
 use Rattle.chunk_mux.specs.Pushes.{Push, pushed, AddsChunks, bytes_of, pieces_of, has_set}
 use Rattle.chunk_mux.specs.Spans.{IsPartOf}
-use Rattle.chunk_mux.proofs.Numbers.{length-new}
 use Rattle.chunk_mux.proofs.Packing.{new_blocks_none}
 use Rattle.chunk_mux.proofs.Spans.{joined_parts, have-append, have-chunk_of, have-new}
-
--- an empty buffer has room for 64 blocks of one chunk each
-pub fits_empty : fits_in [] ≡ 257024
-fits_empty = refl
 
 -- ---- new blocks
 
@@ -214,13 +208,3 @@ packed_sets size blocks ssid s copy offset piece some more =
     let adds = packed_adds size blocks s copy offset piece some in
     ap (has_set ssid) adds.behind ∙ has_set-append ssid (all_chunks blocks) adds.added
     ∙ ap (λ (b : Bool). has_set ssid (all_chunks blocks) || b) (has_set-joined ssid s copy offset adds.added piece adds.joined more)
-
--- ---- the buffer's words
-
-pub pack_joins : (ssid copy offset : ℕ) (piece : List ℕ) → JoinFrom ssid copy offset (all_chunks (pack [] ssid copy offset piece)) piece
-unfolding pack
-pack_joins ssid copy offset piece = packed_joins 4040 ssid copy offset piece (omega arith)
-
-pub pack_count : (ssid copy offset : ℕ) (piece : List ℕ) → length (pack [] ssid copy offset piece) ≡ div_ceil (length piece) 4016
-unfolding pack
-pack_count ssid copy offset piece = length-new 4016 (length piece) ssid copy offset piece (omega arith) (omega arith)

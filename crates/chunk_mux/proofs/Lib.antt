@@ -14,3 +14,4 @@ mod SealedBlocks
 pub mod Sections
 pub mod Spans
 mod Walking
+mod Written

@@ -1,5 +1,7 @@
 -- The save sets of a buffer: numbers that ascend.
-use Rattle.std.proofs.Common.{◌≡◌, ℕ, zero, suc, ◌+◌, ◌-◌, ◌*◌, ◌≤◌, ◌<◌, List, [], ◌∷◌, ◌++◌, length, get_or, take, drop, Bool, true, false, ◌||◌, ◌==◌, refl, sym, ap, subst, ◌∙◌, arith, length-append, inl, inr}
+use Rattle.std.proofs.Common.{◌≡◌, ℕ, zero, suc, ◌+◌, ◌-◌, ◌*◌, ◌/◌, ◌≤◌, ◌<◌, List, [], ◌∷◌, ◌++◌, length, get_or, take, drop, Bool, true, false, ◌||◌, ◌==◌, refl, sym, ap, subst, ◌∙◌, arith, length-append, inl, inr}
+use Rattle.std.proofs.Math.Nat.{mul-suc}
+use Rattle.std.proofs.lemmas.Nat.{le-div}
 use Rattle.std.proofs.lemmas.Bool.{cases_lt, cases_order, eq-eqb, ne_eqb}
 use Rattle.std.proofs.lemmas.List.{take-append-drop}
 use Rattle.std.proofs.lemmas.List.Edits.{length-insert, get_or-insert_below, get_or-insert_at, get_or-insert_above}
@@ -9,9 +11,10 @@ use Rattle.std.specs.Prelude.{◌≢◌, MatchResult, is_ok}
 use Rattle.std.specs.declared.result.Result.{Result}
 use Rattle.std.specs.declared.result.Result.TheVariants.{Ok, Err}
 use Rattle.volume_block.specs.Chunks.{ChunkText, IsChunk, chunks_text, all_chunks, JoinFrom}
+use Rattle.volume_block.specs.Valid.{AreChunks}
 use Rattle.volume_block.specs.Region.{AreBlocks}
 use Rattle.volume_block.proofs.Lengths.{length-chunks_text}
-use Rattle.chunk_mux.specs.Packing.{chunk_size, packed}
+use Rattle.chunk_mux.specs.Packing.{payload_size, chunk_size, packed}
 use Rattle.chunk_mux.specs.Ssids.{has_number}
 use Rattle.chunk_mux.proofs.Joining.{packed_adds}
 
@@ -138,15 +141,22 @@ chunks_long [] each = omega arith
 chunks_long (chunk ∷ chunks) each =
     omega (arith, length-chunks_text chunk chunks, each.0.some, chunks_long chunks each.1)
 
-pub few_chunks : (blocks : List (List ChunkText)) → AreBlocks blocks → length (all_chunks blocks) ≤ 161 * length blocks
-few_chunks [] are = omega arith
-few_chunks (chunks ∷ blocks) are =
+-- what a block of so many units has room for
+chunks_few : (units : ℕ) (chunks : List ChunkText) → AreChunks units chunks → length chunks ≤ payload_size units / 25
+chunks_few units chunks are =
+    le-div (length chunks) (payload_size units) 25 (omega arith)
+    (omega (arith, chunks_long chunks (recursion_from_All IsChunk chunks are.each), are.fit))
+
+pub few_chunks : (units : ℕ) (blocks : List (List ChunkText)) → AreBlocks units blocks
+    → length (all_chunks blocks) ≤ payload_size units / 25 * length blocks
+few_chunks units [] are = omega arith
+few_chunks units (chunks ∷ blocks) are =
     omega (
       arith,
       length-append chunks (all_chunks blocks),
-      chunks_long chunks (recursion_from_All IsChunk chunks are.0.each),
-      are.0.fit,
-      few_chunks blocks are.1,
+      chunks_few units chunks are.0,
+      few_chunks units blocks are.1,
+      mul-suc (payload_size units / 25) (length blocks),
     )
 
 -- a piece that has bytes adds a chunk

@@ -1,11 +1,12 @@
 -- Packing a piece chunk by chunk.
-use Rattle.std.proofs.Common.{◌≡◌, ℕ, zero, suc, ◌+◌, ◌-◌, ◌≤◌, List, [], ◌∷◌, ◌++◌, length, take, drop, min, refl, sym, ap, ◌∙◌, arith, inl, inr}
+use Rattle.std.proofs.Common.{◌≡◌, ℕ, zero, suc, ◌+◌, ◌-◌, ◌≤◌, List, [], ◌∷◌, ◌++◌, length, take, drop, min, ◌*◌, refl, sym, ap, ◌∙◌, arith, inl, inr}
 use Rattle.std.proofs.lemmas.Bool.{cases_lt}
-use Rattle.std.proofs.lemmas.List.{append-nil, length-append, length-take, length-take-le, length-drop, take_all}
+use Rattle.std.proofs.lemmas.List.{append-nil, length-append, length-take, length-take-le, length-drop, take_all, length_push}
+use Rattle.std.proofs.Math.Nat.{mul-suc}
 use Rattle.std.proofs.lemmas.List.Concat.{flat_map-append}
 use Rattle.volume_block.specs.Chunks.{ChunkText, chunk_text, chunks_text}
 use Rattle.volume_block.proofs.Lengths.{length-chunks_text}
-use Rattle.chunk_mux.specs.Packing.{chunk_size, room_behind, room_in, add_last, chunk_of, new_blocks, packed, pack, Fits}
+use Rattle.chunk_mux.specs.Packing.{BufferView, payload_size, chunk_size, room_behind, room_in, add_last, chunk_of, new_blocks, packed, pack, Fits}
 
 -- ---- chunks
 
@@ -169,40 +170,72 @@ packed_begun size (block ∷ next ∷ blocks) ssid copy offset count piece some 
 
 -- ---- the buffer's words
 
-pub pack_is : (blocks : List (List ChunkText)) (ssid copy offset : ℕ) (piece : List ℕ)
-    → pack blocks ssid copy offset piece ≡ packed 4040 blocks ssid copy offset piece
+-- the buffer with these blocks
+with_blocks : BufferView → List (List ChunkText) → BufferView
+with_blocks buffer blocks = record buffer { blocks = blocks }
+
+pub pack_is : (buffer : BufferView) (ssid copy offset : ℕ) (piece : List ℕ)
+    → pack buffer ssid copy offset piece ≡ record buffer { blocks = packed (payload_size buffer.units) buffer.blocks ssid copy offset piece }
 unfolding pack
-pack_is blocks ssid copy offset piece = refl
+pack_is buffer ssid copy offset piece = refl
 
-pub pack_none : (blocks : List (List ChunkText)) (ssid copy offset : ℕ) (piece : List ℕ) → length piece ≡ 0
-    → pack blocks ssid copy offset piece ≡ blocks
-unfolding pack
-pack_none blocks ssid copy offset piece none = packed_none 4040 blocks ssid copy offset piece none
+pub pack_none : (buffer : BufferView) (ssid copy offset : ℕ) (piece : List ℕ) → length piece ≡ 0
+    → pack buffer ssid copy offset piece ≡ buffer
+unfolding pack with_blocks
+pack_none buffer ssid copy offset piece none =
+    ap (with_blocks buffer) (packed_none (payload_size buffer.units) buffer.blocks ssid copy offset piece none)
 
-pub pack_added : (blocks : List (List ChunkText)) (ssid copy offset count : ℕ) (piece : List ℕ)
-    → 1 ≤ room_in 4040 blocks → 1 ≤ length piece → count ≡ min (room_in 4040 blocks) (length piece)
-    → pack (add_last blocks (chunk_of ssid copy offset (take count piece))) ssid copy (offset + count) (drop count piece)
-    ≡ pack blocks ssid copy offset piece
-unfolding pack
-pack_added blocks ssid copy offset count piece room more is =
-    packed_added 4040 blocks ssid copy offset count piece (omega arith) room more is
+pub pack_added : (buffer : BufferView) (ssid copy offset count : ℕ) (piece : List ℕ) → 1 ≤ buffer.units
+    → 1 ≤ room_in (payload_size buffer.units) buffer.blocks → 1 ≤ length piece
+    → count ≡ min (room_in (payload_size buffer.units) buffer.blocks) (length piece)
+    → pack (record buffer { blocks = add_last buffer.blocks (chunk_of ssid copy offset (take count piece)) }) ssid copy (offset + count)
+    (drop count piece) ≡ pack buffer ssid copy offset piece
+unfolding pack with_blocks
+pack_added buffer ssid copy offset count piece units room more is =
+    ap (with_blocks buffer) (packed_added (payload_size buffer.units) buffer.blocks ssid copy offset count piece (omega arith) room more is)
 
-pub pack_begun : (blocks : List (List ChunkText)) (ssid copy offset count : ℕ) (piece : List ℕ)
-    → room_in 4040 blocks ≡ 0 → 1 ≤ length piece → count ≡ min 4016 (length piece)
-    → pack (blocks ++ chunk_of ssid copy offset (take count piece) ∷ []) ssid copy (offset + count) (drop count piece)
-    ≡ pack blocks ssid copy offset piece
-unfolding pack
-pack_begun blocks ssid copy offset count piece full more is =
-    packed_begun 4040 blocks ssid copy offset count piece (omega arith) full more is
+pub pack_begun : (buffer : BufferView) (ssid copy offset count : ℕ) (piece : List ℕ) → 1 ≤ buffer.units
+    → room_in (payload_size buffer.units) buffer.blocks ≡ 0 → 1 ≤ length piece
+    → count ≡ min (chunk_size (payload_size buffer.units)) (length piece)
+    → pack (record buffer { blocks = buffer.blocks ++ chunk_of ssid copy offset (take count piece) ∷ [] }) ssid copy (offset + count)
+    (drop count piece) ≡ pack buffer ssid copy offset piece
+unfolding pack with_blocks
+pack_begun buffer ssid copy offset count piece units full more is =
+    ap (with_blocks buffer) (packed_begun (payload_size buffer.units) buffer.blocks ssid copy offset count piece (omega arith) full more is)
 
-pub fits_added : (blocks : List (List ChunkText)) (ssid copy offset count : ℕ) (piece : List ℕ)
-    → 1 ≤ room_in 4040 blocks → 1 ≤ length piece → count ≡ min (room_in 4040 blocks) (length piece) → Fits blocks (length piece)
-    → Fits (add_last blocks (chunk_of ssid copy offset (take count piece))) (length piece - count)
-fits_added blocks ssid copy offset count piece room more is fits =
-    omega (arith, length-add_last blocks (chunk_of ssid copy offset (take count piece)))
+pub fits_added : (buffer : BufferView) (ssid copy offset count : ℕ) (piece : List ℕ)
+    → count ≡ min (room_in (payload_size buffer.units) buffer.blocks) (length piece) → Fits buffer (length piece)
+    → Fits (record buffer { blocks = add_last buffer.blocks (chunk_of ssid copy offset (take count piece)) }) (length piece - count)
+fits_added buffer ssid copy offset count piece is fits =
+    let size = payload_size buffer.units in
+    let new = add_last buffer.blocks (chunk_of ssid copy offset (take count piece)) in
+    let same : chunk_size size * (64 - length new) ≡ chunk_size size * (64 - length buffer.blocks) =
+    ap (λ (n : ℕ). chunk_size size * (64 - n)) (length-add_last buffer.blocks (chunk_of ssid copy offset (take count piece))) in
+    left (room_in size buffer.blocks) (room_in size new) count (length piece) (chunk_size size * (64 - length buffer.blocks))
+    (chunk_size size * (64 - length new)) is same fits
+  where
+    left : (room other count long free now : ℕ) → count ≡ min room long → now ≡ free → long ≤ room + free → long - count ≤ other + now
+    left room other count long free now is same fits = omega arith
 
-pub fits_begun : (blocks : List (List ChunkText)) (ssid copy offset count : ℕ) (piece : List ℕ)
-    → room_in 4040 blocks ≡ 0 → 1 ≤ length piece → count ≡ min 4016 (length piece) → Fits blocks (length piece)
-    → Fits (blocks ++ chunk_of ssid copy offset (take count piece) ∷ []) (length piece - count)
-fits_begun blocks ssid copy offset count piece full more is fits =
-    omega (arith, length-append blocks (chunk_of ssid copy offset (take count piece) ∷ []))
+pub fits_begun : (buffer : BufferView) (ssid copy offset count : ℕ) (piece : List ℕ)
+    → room_in (payload_size buffer.units) buffer.blocks ≡ 0 → count ≡ min (chunk_size (payload_size buffer.units)) (length piece)
+    → Fits buffer (length piece)
+    → Fits (record buffer { blocks = buffer.blocks ++ chunk_of ssid copy offset (take count piece) ∷ [] }) (length piece - count)
+fits_begun buffer ssid copy offset count piece full is fits =
+    let size = payload_size buffer.units in
+    let new = buffer.blocks ++ chunk_of ssid copy offset (take count piece) ∷ [] in
+    let long : length new ≡ length buffer.blocks + 1 = length_push buffer.blocks (chunk_of ssid copy offset (take count piece)) in
+    left (chunk_size size) (room_in size buffer.blocks) (room_in size new) count (length piece) (length buffer.blocks) (length new) full is long fits
+  where
+    left : (most room other count long blocks now : ℕ) → room ≡ 0 → count ≡ min most long → now ≡ blocks + 1
+        → long ≤ room + most * (64 - blocks) → long - count ≤ other + most * (64 - now)
+    left most room other count long blocks now full is same fits = elim (cases_lt blocks 64) [
+      | inl low ↦
+          let step : 64 - blocks ≡ suc (64 - now) = omega arith in
+          let more : most * (64 - blocks) ≡ most * suc (64 - now) = ap (λ (n : ℕ). most * n) step in
+          omega (arith, more, mul-suc most (64 - now))
+      | inr far ↦
+          let none : 64 - blocks ≡ 0 = omega arith in
+          let no : most * (64 - blocks) ≡ most * 0 = ap (λ (n : ℕ). most * n) none in
+          omega (arith, no)
+    ]

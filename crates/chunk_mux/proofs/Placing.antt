@@ -1,5 +1,5 @@
 -- Chunks that stand on volumes: a tiling of a copy that is whole, and what a push does.
-use Rattle.std.proofs.Common.{◌≡◌, ◌⊎◌, inl, inr, ℕ, zero, suc, ◌+◌, ◌≤◌, ◌<◌, List, [], ◌∷◌, ◌++◌, length, get_or, Bool, false, cond, refl, sym, ap, subst, ◌∙◌, arith, append_assoc, length-append}
+use Rattle.std.proofs.Common.{◌≡◌, ◌⊎◌, inl, inr, ℕ, zero, suc, ◌+◌, ◌*◌, ◌≤◌, ◌<◌, List, [], ◌∷◌, ◌++◌, length, get_or, Bool, false, cond, refl, sym, ap, subst, ◌∙◌, arith, append_assoc, length-append}
 use Rattle.std.proofs.lemmas.Bool.{cases_lt}
 use Rattle.std.proofs.lemmas.Bool.Decides.{nat_tests}
 use Rattle.std.proofs.lemmas.List.{get_or-take}
@@ -93,9 +93,9 @@ record StandsAt (blocks : List (List ChunkText)) (one : Standing) (i : ℕ) : Ty
   pub is : get_or blocks i [] ≡ before ++ one.chunk ∷ after
   pub start : one.start ≡ 80 + length (chunks_text before)
 
-to_index : (volid mark : ℕ) (blocks : List (List ChunkText)) (one : Standing) → (inside : InBlocks volid mark blocks one)
+to_index : (volid mark units : ℕ) (blocks : List (List ChunkText)) (one : Standing) → (inside : InBlocks volid mark units blocks one)
     → StandsAt blocks one (length inside.earlier)
-to_index volid mark blocks one inside = record {
+to_index volid mark units blocks one inside = record {
   before = inside.before;
   after = inside.after;
   is = ap (λ (bs : List (List ChunkText)). get_or bs (length inside.earlier) []) inside.parts
@@ -103,9 +103,9 @@ to_index volid mark blocks one inside = record {
   start = inside.start;
 }
 
-from_index : (volid mark i : ℕ) (blocks : List (List ChunkText)) (one : Standing) → one.volid ≡ volid → one.mark ≡ mark → one.block ≡ mark + 1 + i
-    → StandsAt blocks one i → InBlocks volid mark blocks one
-from_index volid mark i blocks one volume at block stands =
+from_index : (volid mark units i : ℕ) (blocks : List (List ChunkText)) (one : Standing) → one.volid ≡ volid → one.mark ≡ mark → one.block ≡ mark + 1 + units * i
+    → StandsAt blocks one i → InBlocks volid mark units blocks one
+from_index volid mark units i blocks one volume at block stands =
     let found = at_index blocks i stands.before stands.after one.chunk stands.is in
     let s = found.size in
     record {
@@ -116,7 +116,7 @@ from_index volid mark i blocks one volume at block stands =
       after = stands.after;
       later = found.later;
       parts = found.parts;
-      block = omega (arith, block, s);
+      block = block ∙ ap (λ (n : ℕ). mark + 1 + units * n) (sym s);
       start = stands.start;
     }
 
@@ -159,50 +159,50 @@ last-or-not (one ∷ old) (two ∷ before) after chunk last is =
       | inr same ↦ inr same
     ]
 
-pub push_adds : (size volid mark : ℕ) (blocks : List (List ChunkText)) (ssid copy offset : ℕ) (piece : List ℕ) (one : Standing) → 1 ≤ chunk_size size
-    → InBlocks volid mark (packed size blocks ssid copy offset piece) one
-    → InBlocks volid mark blocks one ⊎ IsPartOf ssid copy offset piece one.chunk
-push_adds size volid mark blocks ssid copy offset [] one some inside =
-    inl (subst (λ (bs : List (List ChunkText)). InBlocks volid mark bs one) (packed_none size blocks ssid copy offset [] refl) inside)
-push_adds size volid mark blocks ssid copy offset (byte ∷ more) one some inside =
+pub push_adds : (size volid mark units : ℕ) (blocks : List (List ChunkText)) (ssid copy offset : ℕ) (piece : List ℕ) (one : Standing) → 1 ≤ chunk_size size
+    → InBlocks volid mark units (packed size blocks ssid copy offset piece) one
+    → InBlocks volid mark units blocks one ⊎ IsPartOf ssid copy offset piece one.chunk
+push_adds size volid mark units blocks ssid copy offset [] one some inside =
+    inl (subst (λ (bs : List (List ChunkText)). InBlocks volid mark units bs one) (packed_none size blocks ssid copy offset [] refl) inside)
+push_adds size volid mark units blocks ssid copy offset (byte ∷ more) one some inside =
     let piece : List ℕ = byte ∷ more in
     let new = packed size blocks ssid copy offset piece in
     let i = length inside.earlier in
-    let stands = to_index volid mark new one inside in
+    let stands = to_index volid mark units new one inside in
     elim (cases_lt i (first_in size blocks piece)) [
       | inl low ↦
           let same = below-first size blocks ssid copy offset piece i some low in
-          inl (from_index volid mark i blocks one inside.volume inside.at inside.block
+          inl (from_index volid mark units i blocks one inside.volume inside.at inside.block
           (record { before = stands.before; after = stands.after; is = sym same ∙ stands.is; start = stands.start }))
       | inr from ↦
           let grown = span_has size blocks ssid copy offset piece i some (omega arith) from
           (inside-long new i stands.before stands.after one.chunk stands.is) in
           elim (last-or-not (get_or blocks i []) stands.before stands.after one.chunk grown.chunk (sym grown.behind ∙ stands.is)) [
-            | inl earlier ↦ inl (from_index volid mark i blocks one inside.volume inside.at inside.block
+            | inl earlier ↦ inl (from_index volid mark units i blocks one inside.volume inside.at inside.block
                 (record { before = stands.before; after = earlier.rest; is = earlier.is; start = stands.start }))
             | inr same ↦ inr (subst (IsPartOf ssid copy offset piece) (sym same) grown.part)
           ]
     ]
 
-pub push_keeps : (size volid mark : ℕ) (blocks : List (List ChunkText)) (ssid copy offset : ℕ) (piece : List ℕ) (one : Standing) → 1 ≤ chunk_size size
-    → InBlocks volid mark blocks one → InBlocks volid mark (packed size blocks ssid copy offset piece) one
-push_keeps size volid mark blocks ssid copy offset [] one some inside =
-    subst (λ (bs : List (List ChunkText)). InBlocks volid mark bs one) (sym (packed_none size blocks ssid copy offset [] refl)) inside
-push_keeps size volid mark blocks ssid copy offset (byte ∷ more) one some inside =
+pub push_keeps : (size volid mark units : ℕ) (blocks : List (List ChunkText)) (ssid copy offset : ℕ) (piece : List ℕ) (one : Standing) → 1 ≤ chunk_size size
+    → InBlocks volid mark units blocks one → InBlocks volid mark units (packed size blocks ssid copy offset piece) one
+push_keeps size volid mark units blocks ssid copy offset [] one some inside =
+    subst (λ (bs : List (List ChunkText)). InBlocks volid mark units bs one) (sym (packed_none size blocks ssid copy offset [] refl)) inside
+push_keeps size volid mark units blocks ssid copy offset (byte ∷ more) one some inside =
     let piece : List ℕ = byte ∷ more in
     let new = packed size blocks ssid copy offset piece in
     let i = length inside.earlier in
-    let stands = to_index volid mark blocks one inside in
+    let stands = to_index volid mark units blocks one inside in
     let low = inside-long blocks i stands.before stands.after one.chunk stands.is in
     elim (cases_lt i (first_in size blocks piece)) [
       | inl under ↦
           let same = below-first size blocks ssid copy offset piece i some under in
-          from_index volid mark i new one inside.volume inside.at inside.block
+          from_index volid mark units i new one inside.volume inside.at inside.block
           (record { before = stands.before; after = stands.after; is = same ∙ stands.is; start = stands.start })
       | inr from ↦
           let grown = span_has size blocks ssid copy offset piece i some (omega arith) from
           (omega (arith, low, length-packed size blocks ssid copy offset piece some)) in
-          from_index volid mark i new one inside.volume inside.at inside.block
+          from_index volid mark units i new one inside.volume inside.at inside.block
           (record {
             before = stands.before;
             after = stands.after ++ grown.chunk ∷ [];

@@ -44,7 +44,7 @@ reads_front chunk tail allowed short =
       behind = drop_at (chunk_text chunk) tail (24 + count_in text) (length-chunk_text chunk ∙ omega (arith, count));
     }
 
-pub chunks_read_back : (most : ℕ) (chunks : List ChunkText) → most ≤ 4040 → All IsChunk chunks → length (chunks_text chunks) ≤ most
+pub chunks_read_back : (most : ℕ) (chunks : List ChunkText) → most < 2 ^ 32 → All IsChunk chunks → length (chunks_text chunks) ≤ most
     → chunks_at most (chunks_text chunks) ≡ chunks
 chunks_read_back zero [] low each fits = refl
 chunks_read_back zero (chunk ∷ chunks) low each fits = absurd (omega (arith, length-chunks_text chunk chunks))

@@ -1,12 +1,17 @@
 -- How pieces of streams are packed into data blocks. `size` is how many bytes a block's payload
 -- has.
-use Rattle.std.specs.Prelude.{ℕ, zero, suc, ◌+◌, ◌-◌, ◌*◌, ◌≤◌, List, [], ◌∷◌, ◌++◌, length, take}
-use Rattle.std.specs.Prelude.{drop, ◌==◌, if◌then◌else◌}
+use Rattle.std.specs.Prelude.{ℕ, zero, suc, ◌+◌, ◌-◌, ◌*◌, ◌/◌, ◌≤◌, List, [], ◌∷◌, ◌++◌, length}
+use Rattle.std.specs.Prelude.{take, drop, ◌==◌, if◌then◌else◌}
 use Rattle.volume_block.specs.Chunks.{ChunkText, chunks_text}
+use Rattle.volume_block.specs.Layout.{data_size}
 
--- the payload of a data block
-abbrev pub payload_size : ℕ
-payload_size = 4040
+-- the payload of a data block of so many units
+abbrev pub payload_size : ℕ → ℕ
+payload_size units = data_size units - 56
+
+-- the most chunks of 64 data blocks of so many units: each takes 25 bytes at least
+abbrev pub most_chunks : ℕ → ℕ
+most_chunks units = 64 * (payload_size units / 25)
 
 -- the most bytes of a chunk in a block of its own: 24 bytes stand before them
 abbrev pub chunk_size : ℕ → ℕ
@@ -26,13 +31,23 @@ room_in size (block ∷ next ∷ more) = room_in size (next ∷ more)
 abbrev pub fits_behind : ℕ → ℕ → List (List ChunkText) → ℕ
 fits_behind size most blocks = room_in size blocks + chunk_size size * (most - length blocks)
 
--- the same in a buffer of 64 data blocks
-abbrev pub fits_in : List (List ChunkText) → ℕ
-fits_in blocks = fits_behind payload_size 64 blocks
+-- What a buffer holds: data blocks of so many units of 4,096 bytes, of which these are begun, each
+-- with its chunks.
+pub record BufferView : Type 0 where
+  pub units : ℕ
+  pub blocks : List (List ChunkText)
+
+-- a buffer without chunks
+abbrev pub empty : ℕ → BufferView
+empty units = record { units = units; blocks = [] }
+
+-- the longest piece for which there is room in a buffer of 64 data blocks
+abbrev pub fits_in : BufferView → ℕ
+fits_in buffer = fits_behind (payload_size buffer.units) 64 buffer.blocks
 
 -- there is room for a piece of so many bytes
-abbrev pub Fits : List (List ChunkText) → ℕ → Type 0
-Fits blocks count = count ≤ fits_in blocks
+abbrev pub Fits : BufferView → ℕ → Type 0
+Fits buffer count = count ≤ fits_in buffer
 
 -- more chunks in the last of these blocks
 abbrev pub add_last : List (List ChunkText) → List ChunkText → List (List ChunkText)
@@ -67,9 +82,11 @@ packed size (last ∷ []) ssid copy offset piece =
 packed size (block ∷ next ∷ more) ssid copy offset piece =
     block ∷ packed size (next ∷ more) ssid copy offset piece
 
--- the data blocks of a buffer after a push
-unfoldable pub pack : List (List ChunkText) → ℕ → ℕ → ℕ → List ℕ → List (List ChunkText)
-pack blocks ssid copy offset piece = packed payload_size blocks ssid copy offset piece
+-- a buffer after a push
+unfoldable pub pack : BufferView → ℕ → ℕ → ℕ → List ℕ → BufferView
+pack buffer ssid copy offset piece = record buffer {
+  blocks = packed (payload_size buffer.units) buffer.blocks ssid copy offset piece;
+}
 
 -- The first data block that a piece goes into, counted from 0. That of a piece without bytes is the
 -- last block.
@@ -79,5 +96,5 @@ first_in size blocks (byte ∷ more) =
     if room_in size blocks == 0 then length blocks else length blocks - 1
 
 -- the same in a buffer
-abbrev pub first_used : List (List ChunkText) → List ℕ → ℕ
-first_used blocks piece = first_in payload_size blocks piece
+abbrev pub first_used : BufferView → List ℕ → ℕ
+first_used buffer piece = first_in (payload_size buffer.units) buffer.blocks piece

@@ -1,7 +1,8 @@
 -- The chunks that the bytes of blocks spell.
-use Rattle.std.specs.Prelude.{◌≡◌, ℕ, zero, suc, ◌+◌, List, [], ◌∷◌, length, take, drop}
+use Rattle.std.specs.Prelude.{◌≡◌, ℕ, zero, suc, ◌+◌, List, [], ◌∷◌, ◌++◌, length, take, drop}
 use Rattle.volume_block.specs.Chunks.{ChunkText, ssid_in, copy_in, offset_in, count_in, chunks_text}
 use Rattle.volume_block.specs.Valid.{AreChunks}
+use Rattle.volume_block.specs.Layout.{data_size}
 
 -- the chunk at the front of these bytes
 abbrev pub chunk_at : List ℕ → ChunkText
@@ -20,22 +21,26 @@ chunks_at (suc most) [] = []
 chunks_at (suc most) (byte ∷ more) =
     chunk_at (byte ∷ more) ∷ chunks_at most (drop (24 + count_in (byte ∷ more)) (byte ∷ more))
 
--- the payload that is used of a block
+-- the payload that is used of the block at the front of these bytes
 abbrev pub used_text : ℕ → List ℕ → List ℕ
-used_text used block = take used (drop 56 block)
+used_text used bytes = take used (drop 56 bytes)
 
--- the chunks of each of the first blocks, where so many bytes of each payload are used
-unfoldable pub chunks_in : List ℕ → List (List ℕ) → List (List ChunkText)
-chunks_in [] blocks = []
-chunks_in (used ∷ more) [] = []
-chunks_in (used ∷ more) (block ∷ blocks) =
-    chunks_at used (used_text used block) ∷ chunks_in more blocks
+-- The chunks of each of the first blocks of these bytes, where so many bytes of each payload are
+-- used. The blocks stand one behind the other.
+unfoldable pub chunks_in : ℕ → List ℕ → List ℕ → List (List ChunkText)
+chunks_in units [] bytes = []
+chunks_in units (used ∷ more) bytes =
+    chunks_at used (used_text used bytes) ∷ chunks_in units more (drop (data_size units) bytes)
 
 -- these chunks stand in the blocks, and fill what is used of each payload
-abbrev pub Hold : List (List ChunkText) → List ℕ → List (List ℕ) → Type 0
-Hold [] [] blocks = Unit {0}
-Hold (chunks ∷ more) (used ∷ others) (block ∷ blocks) =
-    AreChunks chunks × (used ≡ length (chunks_text chunks))
-    × (used_text used block ≡ chunks_text chunks)
-    × Hold more others blocks
-Hold _ _ _ = ⊥
+abbrev pub Hold : ℕ → List (List ChunkText) → List ℕ → List ℕ → Type 0
+Hold units [] [] bytes = Unit {0}
+Hold units (chunks ∷ more) (used ∷ others) bytes =
+    AreChunks units chunks × (used ≡ length (chunks_text chunks))
+    × (used_text used bytes ≡ chunks_text chunks)
+    × Hold units more others (drop (data_size units) bytes)
+Hold units _ _ bytes = ⊥
+
+-- the bytes with these in place of those from a place on
+abbrev pub written : ℕ → List ℕ → List ℕ → List ℕ
+written at text bytes = take at bytes ++ (text ++ drop (at + length text) bytes)

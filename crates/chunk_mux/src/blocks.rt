@@ -2,36 +2,32 @@
 
 ghost use Rattle.std.specs.Prelude.{◌≡◌, ◌+◌, ◌-◌, ◌*◌, ◌≤◌, ◌<◌, ◌^◌, ◌++◌, ◌∷◌, ◌↔◌, [], List};
 ghost use Rattle.std.specs.Prelude.{length, drop, IfOk, IsTrue};
-ghost use Rattle.volume_block.specs.Chunks.{ChunkText, chunk_head};
+ghost use Rattle.volume_block.specs.Chunks.{chunk_head};
+ghost use Rattle.volume_block.specs.Layout.{IsUnits};
 ghost use Rattle.volume_block.specs.Region.{AreBlocks, IsSealed};
-ghost use Rattle.chunk_mux.specs.Text.{used_text};
-ghost use Rattle.chunk_mux.specs.Packing.{Fits, pack, first_used, room_in, payload_size};
-ghost use Rattle.chunk_mux.specs.Packing.{chunk_size, chunk_of, add_last};
+ghost use Rattle.chunk_mux.specs.Text.{written};
+ghost use Rattle.chunk_mux.specs.Packing.{BufferView, empty, Fits, pack, first_used, room_in};
+ghost use Rattle.chunk_mux.specs.Packing.{payload_size, chunk_size, chunk_of, add_last};
 
 use crate::Span;
 use crate::sealing::make_region;
+use crate::size::{data_size, payload_size};
 use room_base::{CopyNo, Memory, Ssid, Volid};
 use std::alloc::Global;
 use std::marker::Model;
-use volume_block::{
-    BLOCK_SIZE, CHUNK_HEAD_SIZE, MAX_FILE_BLOCKS, PAYLOAD_SIZE, PAYLOAD_START, write_chunk_head,
-};
+use volume_block::{BLOCK_SIZE, CHUNK_HEAD_SIZE, MAX_FILE_BLOCKS, PAYLOAD_START, write_chunk_head};
 
 /// The data blocks of a buffer.
 const DATA_BLOCKS: usize = MAX_FILE_BLOCKS as usize;
 
-/// The blocks of a buffer: a mark, the data blocks, and a closed block.
-const BUFFER_BLOCKS: usize = DATA_BLOCKS + 2;
-
-/// The most bytes of a chunk that has a data block of its own.
-const CHUNK_SIZE: usize = PAYLOAD_SIZE - CHUNK_HEAD_SIZE;
-
 /// The data blocks of one file, which pieces of streams are put into, one behind the other.
-/// Contracts see the chunks of each data block that is begun.
+/// Contracts see the units that a data block has, and the chunks of each that is begun.
 #[derive(Drop)]
 pub(crate) struct DataBlocks {
-    /// All blocks, from the mark on.
-    blocks: Vec<[u8; BLOCK_SIZE]>,
+    /// How many units of 4,096 bytes a data block has.
+    units: u32,
+    /// The bytes of a mark, the data blocks and a closed block.
+    bytes: Vec<u8>,
     /// How many bytes of each data block's payload are used.
     used: [u32; DATA_BLOCKS],
     /// How many data blocks are begun.
@@ -39,10 +35,9 @@ pub(crate) struct DataBlocks {
 }
 
 impl Model for DataBlocks {
-    ghost use Rattle.std.specs.Prelude.{List};
-    ghost use Rattle.volume_block.specs.Chunks.{ChunkText};
+    ghost use Rattle.chunk_mux.specs.Packing.{BufferView};
 
-    ghost Value = { List (List ChunkText) };
+    ghost Value = { BufferView };
 
     ghost use Rattle.chunk_mux.specs.Blocks.{view_of, AreFilled};
 
@@ -56,28 +51,40 @@ impl DataBlocks {
     ghost use Rattle.chunk_mux.specs.Lending.{BlocksStay};
 
     /// No block is begun. All memory is taken here.
-    pub(crate) fn new(alloc: Global) -> Result<DataBlocks, Memory>
-        ensures { IfOk result (λ buffer. buffer ≡ []) }
+    pub(crate) fn new(alloc: Global, units: u32) -> Result<DataBlocks, Memory>
+        requires { IsUnits units }
+        ensures { IfOk result (λ buffer. buffer ≡ empty units) }
     {
+        let size = 2 * BLOCK_SIZE + data_size(units) * DATA_BLOCKS;
         Ok(DataBlocks {
-            blocks: vec![in alloc; [0; BLOCK_SIZE]; BUFFER_BLOCKS]?,
+            units,
+            bytes: vec![in alloc; 0; size]?,
             used: [0; DATA_BLOCKS],
             begun: 0,
         })
     }
 
+    /// How many units a data block has.
+    pub(crate) fn units(&self) -> u32
+        ensures units { result ≡ self.now.units }
+        ensures allowed { IsUnits self.now.units }
+    {
+        self.units
+    }
+
     /// How many data blocks are begun.
     pub(crate) fn count(&self) -> u32
-        ensures count { result ≡ length self.now }
+        ensures count { result ≡ length self.now.blocks }
         ensures most { result ≤ 64 }
-        ensures allowed { AreBlocks self.now }
+        ensures units { IsUnits self.now.units }
+        ensures allowed { AreBlocks self.now.units self.now.blocks }
     {
         self.begun as u32
     }
 
     /// Begins anew, in the same memory.
     pub(crate) fn clear(&mut self)
-        ensures { self.new ≡ [] }
+        ensures { self.new ≡ empty self.old.units }
     {
         self.begun = 0;
     }
@@ -86,7 +93,7 @@ impl DataBlocks {
     pub(crate) fn fits(&self, length: u64) -> bool
         ensures { IsTrue result ↔ Fits self.now length }
     {
-        length <= (self.room() + CHUNK_SIZE * (DATA_BLOCKS - self.begun)) as u64
+        length <= (self.room() + self.chunk_size() * (DATA_BLOCKS - self.begun)) as u64
     }
 
     /// Puts the bytes of a copy of a save set from `offset` on behind what is there. They begin a
@@ -99,9 +106,10 @@ impl DataBlocks {
         requires room { Fits self.old (length piece.now) }
         ensures blocks { self.new ≡ pack self.old ssid.0 copy.0 offset piece.now }
         ensures first { result.first ≡ first_used self.old piece.now }
-        ensures last { result.last ≡ length self.new - 1 }
-        ensures most { length self.new ≤ 64 }
-        ensures allowed { AreBlocks self.new }
+        ensures last { result.last ≡ length self.new.blocks - 1 }
+        ensures most { length self.new.blocks ≤ 64 }
+        ensures units { IsUnits self.new.units }
+        ensures allowed { AreBlocks self.new.units self.new.blocks }
     {
         let first = self.first_used(piece);
         let mut at = offset;
@@ -118,25 +126,34 @@ impl DataBlocks {
     /// Seals the blocks, each of which is digested once, for a volume and a mark place, and lends
     /// the region that a commit there writes. The blocks stay as they were.
     pub(crate) fn seal(&mut self, volid: Volid, mark: u64) -> &[u8]
-        requires some { 1 ≤ length self.old }
+        requires some { 1 ≤ length self.old.blocks }
         requires volid { 1 ≤ volid.0 }
         requires mark { (1 ≤ mark) × (mark < 2 ^ 32) }
         ensures* stays { sem 𝓛 (BlocksStay self.entry) }
-        ensures sealed { IsSealed volid.0 mark self.old result.now }
+        ensures sealed { IsSealed volid.0 mark self.old.units self.old.blocks result.now }
     {
         let used = &self.used[..self.begun];
-        make_region(volid, mark, used, &mut self.blocks);
-        self.blocks[..self.begun + 2].as_flattened()
+        make_region(volid, mark, self.units, used, &mut self.bytes);
+        &self.bytes[..2 * BLOCK_SIZE + data_size(self.units) * self.begun]
+    }
+
+    // The most bytes of a chunk that has a data block of its own.
+    fn chunk_size(&self) -> usize
+        ensures size { result ≡ chunk_size (payload_size self.now.units) }
+        ensures some { 1 ≤ result }
+    {
+        payload_size(self.units) - CHUNK_HEAD_SIZE
     }
 
     // The most bytes of a chunk in the last block.
     fn room(&self) -> usize
-        ensures { result ≡ room_in payload_size self.now }
+        ensures { result ≡ room_in (payload_size self.now.units) self.now.blocks }
     {
         if self.begun == 0 {
             return 0;
         }
-        PAYLOAD_SIZE.saturating_sub(self.used[self.begun - 1] as usize + CHUNK_HEAD_SIZE)
+        self.chunk_size()
+            .saturating_sub(self.used[self.begun - 1] as usize)
     }
 
     fn first_used(&self, piece: &[u8]) -> u32
@@ -167,7 +184,7 @@ impl DataBlocks {
             self.add_chunk(ssid, copy, offset, &piece[..count]);
             count
         } else {
-            let count = CHUNK_SIZE.min(piece.len());
+            let count = self.chunk_size().min(piece.len());
             self.begin_block(ssid, copy, offset, &piece[..count]);
             count
         }
@@ -179,13 +196,15 @@ impl DataBlocks {
         requires copy { 1 ≤ copy.0 }
         requires ends { offset + length piece.now ≤ 2 ^ 36 }
         requires some { 1 ≤ length piece.now }
-        requires room { length piece.now ≤ room_in payload_size self.old }
-        ensures { self.new ≡ add_last self.old (chunk_of ssid.0 copy.0 offset piece.now) }
+        requires room { length piece.now ≤ room_in (payload_size self.old.units) self.old.blocks }
+        ensures { self.new ≡ record self.old {
+          blocks = add_last self.old.blocks (chunk_of ssid.0 copy.0 offset piece.now);
+        } }
     {
         let last = self.begun - 1;
         let used = self.used[last] as usize;
-        let block = &mut self.blocks[last + 1];
-        put_chunk(ssid, copy, offset, piece, used, block);
+        let at = BLOCK_SIZE + data_size(self.units) * last + PAYLOAD_START + used;
+        put_chunk(ssid, copy, offset, piece, at, &mut self.bytes);
         self.used[last] = (used + CHUNK_HEAD_SIZE + piece.len()) as u32;
     }
 
@@ -195,39 +214,28 @@ impl DataBlocks {
         requires copy { 1 ≤ copy.0 }
         requires ends { offset + length piece.now ≤ 2 ^ 36 }
         requires some { 1 ≤ length piece.now }
-        requires room { length piece.now ≤ chunk_size payload_size }
-        requires more { length self.old < 64 }
-        ensures { self.new ≡ self.old ++ chunk_of ssid.0 copy.0 offset piece.now ∷ [] }
+        requires room { length piece.now ≤ chunk_size (payload_size self.old.units) }
+        requires more { length self.old.blocks < 64 }
+        ensures { self.new ≡ record self.old {
+          blocks = self.old.blocks ++ chunk_of ssid.0 copy.0 offset piece.now ∷ [];
+        } }
     {
         let next = self.begun;
-        let block = &mut self.blocks[next + 1];
-        put_chunk(ssid, copy, offset, piece, 0, block);
+        let at = BLOCK_SIZE + data_size(self.units) * next + PAYLOAD_START;
+        put_chunk(ssid, copy, offset, piece, at, &mut self.bytes);
         self.used[next] = (CHUNK_HEAD_SIZE + piece.len()) as u32;
         self.begun += 1;
     }
 }
 
-// Puts a chunk behind the used bytes of a block's payload.
-fn put_chunk(
-    ssid: Ssid,
-    copy: CopyNo,
-    offset: u64,
-    piece: &[u8],
-    used: usize,
-    block: &mut [u8; BLOCK_SIZE],
-)
-    requires { used + 24 + length piece.now ≤ 4040 }
-    ensures { used_text (used + (24 + length piece.now)) block.new
-        ≡ used_text used block.old
-        ++ (chunk_head ssid.0 copy.0 offset (length piece.now) ++ piece.now) }
+// Puts a chunk in place of the bytes from `at` on.
+fn put_chunk(ssid: Ssid, copy: CopyNo, offset: u64, piece: &[u8], at: usize, bytes: &mut [u8])
+    requires piece { length piece.now < 2 ^ 32 }
+    requires room { at + (24 + length piece.now) ≤ length bytes.old }
+    ensures { bytes.new ≡ written at
+        (chunk_head ssid.0 copy.0 offset (length piece.now) ++ piece.now) bytes.old }
 {
-    write_chunk(
-        ssid,
-        copy,
-        offset,
-        piece,
-        &mut block[PAYLOAD_START + used..],
-    );
+    write_chunk(ssid, copy, offset, piece, &mut bytes[at..]);
 }
 
 // Writes a chunk at the front of what is free of a payload.

@@ -1,20 +1,23 @@
 //! A file's data blocks in memory, while they are filled.
 
-ghost use Rattle.std.specs.Prelude.{◌≡◌, ◌+◌, ◌-◌, ◌≤◌, ◌<◌, ◌^◌, ◌↔◌, [], length, IfOk, IsTrue};
+ghost use Rattle.std.specs.Prelude.{◌≡◌, ◌+◌, ◌-◌, ◌≤◌, ◌<◌, ◌^◌, ◌↔◌, length, IfOk, IsTrue};
 ghost use Rattle.volume_block.specs.Chunks.{all_chunks};
+ghost use Rattle.volume_block.specs.Layout.{IsUnits};
 ghost use Rattle.volume_block.specs.Region.{AreBlocks, IsSealed};
-ghost use Rattle.chunk_mux.specs.Packing.{Fits, pack, first_used};
+ghost use Rattle.chunk_mux.specs.Packing.{empty, Fits, pack, first_used, most_chunks};
 ghost use Rattle.chunk_mux.specs.Pushes.{has_set};
 
 use crate::Span;
 use crate::blocks::DataBlocks;
+use crate::size::payload_size;
 use crate::ssids::SsidSet;
 use room_base::{CopyNo, Memory, Ssid, Volid};
 use std::alloc::Global;
 use std::marker::Model;
+use volume_block::{CHUNK_HEAD_SIZE, MAX_FILE_BLOCKS};
 
 /// The data blocks of one file, which pieces of streams are put into, one behind the other.
-/// Contracts see the chunks of each data block that is begun.
+/// Contracts see the units that a data block has, and the chunks of each that is begun.
 #[derive(Drop)]
 pub struct MuxBuffer {
     blocks: DataBlocks,
@@ -23,10 +26,9 @@ pub struct MuxBuffer {
 }
 
 impl Model for MuxBuffer {
-    ghost use Rattle.std.specs.Prelude.{List};
-    ghost use Rattle.volume_block.specs.Chunks.{ChunkText};
+    ghost use Rattle.chunk_mux.specs.Packing.{BufferView};
 
-    ghost Value = { List (List ChunkText) };
+    ghost Value = { BufferView };
 
     ghost use Rattle.chunk_mux.specs.Buffer.{view_of, IsBuffer};
 
@@ -39,35 +41,45 @@ impl MuxBuffer {
     ghost use Rattle.std.specs.Borrow.{sem};
     ghost use Rattle.chunk_mux.specs.Lending.{StaysAsItWas};
 
-    /// An empty buffer. It takes all its memory here.
-    pub fn new(alloc: Global) -> Result<MuxBuffer, Memory>
-        ensures { IfOk result (λ buffer. buffer ≡ []) }
+    /// An empty buffer, whose data blocks have so many units of 4,096 bytes. It takes all its
+    /// memory here.
+    pub fn new(alloc: Global, units: u32) -> Result<MuxBuffer, Memory>
+        requires { IsUnits units }
+        ensures { IfOk result (λ buffer. buffer ≡ empty units) }
     {
         Ok(MuxBuffer {
-            blocks: DataBlocks::new(alloc)?,
-            ssids: SsidSet::new(alloc)?,
+            blocks: DataBlocks::new(alloc, units)?,
+            ssids: SsidSet::new(alloc, max_chunks(units))?,
         })
+    }
+
+    /// How many units of 4,096 bytes a data block has.
+    pub fn units(&self) -> u32
+        ensures units { result ≡ self.now.units }
+        ensures allowed { IsUnits self.now.units }
+    {
+        self.blocks.units()
     }
 
     /// How many data blocks are begun.
     pub fn blocks(&self) -> u32
-        ensures count { result ≡ length self.now }
+        ensures count { result ≡ length self.now.blocks }
         ensures most { result ≤ 64 }
-        ensures allowed { AreBlocks self.now }
+        ensures allowed { AreBlocks self.now.units self.now.blocks }
     {
         self.blocks.count()
     }
 
     /// Whether a save set has a chunk in the buffer.
     pub fn holds(&self, ssid: Ssid) -> bool
-        ensures { result ≡ has_set ssid.0 (all_chunks self.now) }
+        ensures { result ≡ has_set ssid.0 (all_chunks self.now.blocks) }
     {
         self.ssids.contains(ssid)
     }
 
     /// Empties the buffer, which keeps its memory.
     pub fn clear(&mut self)
-        ensures { self.new ≡ [] }
+        ensures { self.new ≡ empty self.old.units }
     {
         self.blocks.clear();
         self.ssids.clear();
@@ -90,7 +102,7 @@ impl MuxBuffer {
         requires room { Fits self.old (length piece.now) }
         ensures blocks { self.new ≡ pack self.old ssid.0 copy.0 offset piece.now }
         ensures first { result.first ≡ first_used self.old piece.now }
-        ensures last { result.last ≡ length self.new - 1 }
+        ensures last { result.last ≡ length self.new.blocks - 1 }
     {
         let span = self.blocks.push(ssid, copy, offset, piece);
         if !piece.is_empty() {
@@ -102,12 +114,21 @@ impl MuxBuffer {
     /// Seals the blocks, each of which is digested once, for a volume and a mark place, and lends
     /// the region that a commit there writes. The buffer stays as it was.
     pub fn seal(&mut self, volid: Volid, mark: u64) -> &[u8]
-        requires some { 1 ≤ length self.old }
+        requires some { 1 ≤ length self.old.blocks }
         requires volid { 1 ≤ volid.0 }
         requires mark { (1 ≤ mark) × (mark < 2 ^ 32) }
         ensures* stays { sem 𝓛 (StaysAsItWas self.entry) }
-        ensures sealed { IsSealed volid.0 mark self.old result.now }
+        ensures sealed { IsSealed volid.0 mark self.old.units self.old.blocks result.now }
     {
         self.blocks.seal(volid, mark)
     }
+}
+
+// The most chunks of a file's data blocks of so many units: each takes a byte more than its head at
+// least.
+fn max_chunks(units: u32) -> usize
+    requires { IsUnits units }
+    ensures { result ≡ most_chunks units }
+{
+    MAX_FILE_BLOCKS as usize * (payload_size(units) / (CHUNK_HEAD_SIZE + 1))
 }

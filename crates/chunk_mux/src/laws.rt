@@ -1,13 +1,13 @@
 //! Laws of packing and of tiling: each function has an empty body, and its contract is the law.
 
 ghost use Rattle.std.specs.Prelude.{◌≡◌, ◌+◌, ◌≤◌, ◌<◌, ◌^◌, ◌==◌, ◌||◌, ◌↔◌, ◌⊎◌, ◌++◌, ℕ, List};
-ghost use Rattle.std.specs.Prelude.{[], length, take, get_or, count_by, All};
+ghost use Rattle.std.specs.Prelude.{◌-◌, ◌*◌, [], length, take, get_or, count_by, All};
 ghost use Rattle.std.specs.Int.{div_ceil};
 ghost use Rattle.volume_block.specs.Chunks.{ChunkText, all_chunks, JoinFrom, joined};
 ghost use Rattle.volume_block.specs.Standing.{Standing, InBlocks, chunks_of};
 ghost use Rattle.volume_block.specs.Region.{AreBlocks};
-ghost use Rattle.chunk_mux.specs.Packing.{payload_size, chunk_size, pack, packed, room_in};
-ghost use Rattle.chunk_mux.specs.Packing.{first_in, fits_in, fits_behind, Fits};
+ghost use Rattle.chunk_mux.specs.Packing.{BufferView, empty, payload_size, chunk_size, pack};
+ghost use Rattle.chunk_mux.specs.Packing.{packed, room_in, first_in, fits_in, fits_behind, Fits};
 ghost use Rattle.chunk_mux.specs.Pushes.{Push, AddsChunks, pushed, bytes_of, pieces_of, has_set};
 ghost use Rattle.chunk_mux.specs.Spans.{IsPartOf, HasOneMore, begun_by, room_after};
 ghost use Rattle.chunk_mux.specs.Placing.{AreOfCopy, places_of};
@@ -17,10 +17,10 @@ ghost use Rattle.chunk_mux.specs.Tiles.{IsInStream, place_order, tiling_from, ha
 ghost use Rattle.chunk_mux.specs.declared.tiling.Placed.{Placed};
 ghost use Rattle.chunk_mux.specs.declared.tiling.Tiling.TheVariants.{Whole, Hole, Overlap};
 
-/// An empty buffer has room for 257,024 bytes. One piece in empty blocks is in as few data blocks
-/// as hold it, and its chunks join to it.
+/// An empty buffer has room for 64 chunks in blocks of their own. One piece in empty blocks is in
+/// as few data blocks as hold it, and its chunks join to it.
 pub fn one_push_is_kept()
-    ensures room { fits_in [] ≡ 257024 }
+    ensures room { (units : ℕ) → fits_in (empty units) ≡ (4096 * units - 80) * 64 }
     ensures joined { (size ssid copy offset : ℕ) (piece : List ℕ) → 25 ≤ size
         → JoinFrom ssid copy offset (all_chunks (packed size [] ssid copy offset piece)) piece }
     ensures count { (size ssid copy offset : ℕ) (piece : List ℕ) → 25 ≤ size
@@ -80,29 +80,30 @@ pub fn pushes_are_counted()
         (piece : List ℕ) → 25 ≤ size → length blocks ≤ most
         → (length piece ≤ fits_behind size most blocks)
         ↔ (length (packed size blocks ssid copy offset piece) ≤ most) }
-    ensures buffer { (blocks : List (List ChunkText)) (ssid copy offset : ℕ) (piece : List ℕ)
-        → length blocks ≤ 64
-        → Fits blocks (length piece) ↔ (length (pack blocks ssid copy offset piece) ≤ 64) }
+    ensures buffer { (buffer : BufferView) (ssid copy offset : ℕ) (piece : List ℕ)
+        → 1 ≤ buffer.units → length buffer.blocks ≤ 64 → Fits buffer (length piece)
+        ↔ (length (pack buffer ssid copy offset piece).blocks ≤ 64) }
 {}
 
 /// A push keeps blocks that are allowed allowed.
 pub fn pushed_blocks_are_allowed()
-    ensures { (blocks : List (List ChunkText)) (ssid copy offset : ℕ) (piece : List ℕ)
-        → (1 ≤ ssid) × (ssid < 2 ^ 64) → (1 ≤ copy) × (copy < 2 ^ 32)
-        → offset + length piece ≤ 2 ^ 36
-        → AreBlocks blocks → AreBlocks (packed payload_size blocks ssid copy offset piece) }
+    ensures { (units : ℕ) (blocks : List (List ChunkText)) (ssid copy offset : ℕ) (piece : List ℕ)
+        → 1 ≤ units → (1 ≤ ssid) × (ssid < 2 ^ 64) → (1 ≤ copy) × (copy < 2 ^ 32)
+        → offset + length piece ≤ 2 ^ 36 → AreBlocks units blocks
+        → AreBlocks units (packed (payload_size units) blocks ssid copy offset piece) }
 {}
 
 /// A push leaves each chunk where it stands in the file that the blocks will be. The chunks that
 /// stand there after it stood there before, or are parts of the piece.
 pub fn a_push_adds_its_chunks()
-    ensures kept { (size volid mark : ℕ) (blocks : List (List ChunkText)) (ssid copy offset : ℕ)
-        (piece : List ℕ) (one : Standing) → 25 ≤ size → InBlocks volid mark blocks one
-        → InBlocks volid mark (packed size blocks ssid copy offset piece) one }
-    ensures added { (size volid mark : ℕ) (blocks : List (List ChunkText)) (ssid copy offset : ℕ)
-        (piece : List ℕ) (one : Standing) → 25 ≤ size
-        → InBlocks volid mark (packed size blocks ssid copy offset piece) one
-        → InBlocks volid mark blocks one ⊎ IsPartOf ssid copy offset piece one.chunk }
+    ensures kept { (size volid mark units : ℕ) (blocks : List (List ChunkText))
+        (ssid copy offset : ℕ) (piece : List ℕ) (one : Standing) → 25 ≤ size
+        → InBlocks volid mark units blocks one
+        → InBlocks volid mark units (packed size blocks ssid copy offset piece) one }
+    ensures added { (size volid mark units : ℕ) (blocks : List (List ChunkText))
+        (ssid copy offset : ℕ) (piece : List ℕ) (one : Standing) → 25 ≤ size
+        → InBlocks volid mark units (packed size blocks ssid copy offset piece) one
+        → InBlocks volid mark units blocks one ⊎ IsPartOf ssid copy offset piece one.chunk }
 {}
 
 /// The chunks of one copy that are found to be whole join from 0 on, and have as many bytes as

@@ -6,6 +6,7 @@ mod blocks;
 mod buffer;
 mod laws;
 mod sealing;
+mod size;
 mod span;
 mod ssids;
 mod tiling;

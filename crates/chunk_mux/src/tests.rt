@@ -2,9 +2,10 @@ ghost use Rattle.std.specs.Prelude.{◌≡◌, ◌≤◌, length};
 
 use super::*;
 use room_base::{CopyNo, Ssid, Volid};
+use std::alloc::Global;
 use std::process::Abort;
 use std::test::Fail;
-use volume_block::{BLOCK_SIZE, BadBlock, Block, PAYLOAD_START, decode_block};
+use volume_block::{BLOCK_SIZE, Block, PAYLOAD_START, decode_block, is_units};
 
 static ZEROS: [u8; 131_072] = [0; 131_072];
 
@@ -12,6 +13,12 @@ static ZEROS: [u8; 131_072] = [0; 131_072];
 static FIRST_HEAD: [u8; 24] = [
     0, 0, 0, 0, 0, 0, 0, 1, 0, 0, 0, 1, 0, 0, 0, 0, 0, 0, 0, 0, 0, 0, 0, 70,
 ];
+
+// An empty buffer.
+fn buffer_of(rt: &impl Abort, alloc: Global, units: u32) -> Option<MuxBuffer> {
+    assert!(rt; is_units(units));
+    MuxBuffer::new(alloc, units).ok()
+}
 
 // Puts so many zeros.
 fn put(buffer: &mut MuxBuffer, rt: &impl Abort, ssid: u64, offset: u64, count: usize) -> Span {
@@ -22,7 +29,8 @@ fn put(buffer: &mut MuxBuffer, rt: &impl Abort, ssid: u64, offset: u64, count: u
 
 #[test]
 fn room_is_counted_in_chunks(rt: HostRuntime) -> Result<(), Fail> {
-    let mut buffer = MuxBuffer::new(rt.alloc()).ok().ok_or("no memory")?;
+    let mut buffer = buffer_of(&rt, rt.alloc(), 1).ok_or("no memory")?;
+    assert!(rt; buffer.units() == 1);
     assert!(rt; buffer.fits(257_024) && !buffer.fits(257_025));
     assert!(rt; !buffer.holds(Ssid(1)));
     // 32 blocks of 4,016 bytes, and one of 2,560, where 4,040 - 2,584 - 24 = 1,432 more have room.
@@ -59,16 +67,57 @@ fn room_is_counted_in_chunks(rt: HostRuntime) -> Result<(), Fail> {
     Ok(())
 }
 
-// What the block at an index of a region is, for volume 7.
-fn block_at(region: &[u8], index: usize, number: u64) -> Option<Result<Block, BadBlock>> {
-    let bytes = region
-        .get(index.checked_mul(BLOCK_SIZE)?..)?
-        .get(..BLOCK_SIZE)?;
-    if bytes.len() == BLOCK_SIZE {
-        Some(decode_block(bytes, Volid(7), number))
+#[test]
+fn a_larger_block_has_more_room(rt: HostRuntime) -> Result<(), Fail> {
+    let mut buffer = buffer_of(&rt, rt.alloc(), 2).ok_or("no memory")?;
+    // 16 blocks of 8,112 bytes, and one of 1,280.
+    let span = put(&mut buffer, &rt, 1, 0, 131_072);
+    assert_eq!(rt; span, Span { first: 0, last: 16 });
+    assert!(rt; buffer.fits(388_072) && !buffer.fits(388_073));
+    Ok(())
+}
+
+// The block of so many bytes at a place in a region, read for volume 7.
+fn block_at(region: &[u8], place: usize, size: usize, number: u64) -> Option<Block> {
+    let bytes = region.get(place..)?.get(..size)?;
+    if bytes.len() >= BLOCK_SIZE {
+        decode_block(bytes, Volid(7), number).ok()
     } else {
         None
     }
+}
+
+// Whether all data blocks of a region for volume 7 and mark place 5 are read, of which all but the
+// last are full, and a closed block follows them.
+fn has_blocks(region: &[u8], units: u32, count: usize) -> bool
+    requires { (1 ≤ units) × (units ≤ 16) × (count ≤ 64) }
+{
+    let size = BLOCK_SIZE * units as usize;
+    let full = Block::Data {
+        used: (size - PAYLOAD_START) as u32,
+        units,
+    };
+    for i in 1..count {
+        let place = BLOCK_SIZE + size * (i - 1);
+        let number = 6 + u64::from(units) * (i as u64 - 1);
+        if block_at(region, place, size, number) != Some(full) {
+            return false;
+        }
+    }
+    let closed = region.get(BLOCK_SIZE + size * count..).unwrap_or(&[]);
+    closed.len() == BLOCK_SIZE && closed.iter().all(|byte| *byte == 0)
+}
+
+#[test]
+fn sealed_regions_are_read(rt: HostRuntime) -> Result<(), Fail> {
+    for units in [1, 2, 4, 8, 16] {
+        let mut buffer = buffer_of(&rt, rt.alloc(), units).ok_or("no memory")?;
+        put(&mut buffer, &rt, 1, 0, 131_072);
+        let count = buffer.blocks() as usize;
+        assert!(rt; units >= 1 && units <= 16 && count <= 64);
+        assert!(rt; has_blocks(sealed(&mut buffer, &rt), units, count));
+    }
+    Ok(())
 }
 
 fn sealed<'a>(buffer: &'a mut MuxBuffer, rt: &impl Abort) -> &'a [u8] {
@@ -78,7 +127,7 @@ fn sealed<'a>(buffer: &'a mut MuxBuffer, rt: &impl Abort) -> &'a [u8] {
 
 // The buffer stays as it was, so it can be sealed again.
 fn is_sealed_alike(buffer: &mut MuxBuffer) -> bool
-    requires { 1 ≤ length buffer.old }
+    requires { 1 ≤ length buffer.old.blocks }
     ensures { buffer.new ≡ buffer.old }
 {
     let size = buffer.seal(Volid(7), 5).len();
@@ -87,7 +136,7 @@ fn is_sealed_alike(buffer: &mut MuxBuffer) -> bool
 
 #[test]
 fn two_copies_in_turn_share_a_block(rt: HostRuntime) -> Result<(), Fail> {
-    let mut buffer = MuxBuffer::new(rt.alloc()).ok().ok_or("no memory")?;
+    let mut buffer = buffer_of(&rt, rt.alloc(), 1).ok_or("no memory")?;
     for (ssid, offset, count) in [
         (1, 0, 70),
         (2, 0, 69),
@@ -105,7 +154,13 @@ fn two_copies_in_turn_share_a_block(rt: HostRuntime) -> Result<(), Fail> {
     assert!(rt; is_sealed_alike(&mut buffer));
     let region = sealed(&mut buffer, &rt);
     assert_eq!(rt; region.len(), 3 * BLOCK_SIZE);
-    assert_eq!(rt; block_at(region, 1, 6), Some(Ok(Block::Data { used: 421 })));
+    assert_eq!(rt;
+        block_at(region, BLOCK_SIZE, BLOCK_SIZE, 6),
+        Some(Block::Data {
+            used: 421,
+            units: 1
+        })
+    );
     let head = region.get(BLOCK_SIZE + PAYLOAD_START..BLOCK_SIZE + PAYLOAD_START + 24);
     assert_eq!(rt; head, Some(FIRST_HEAD.as_slice()));
     assert_eq!(rt; region.first().copied(), Some(0));

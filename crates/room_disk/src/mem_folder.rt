@@ -1,4 +1,5 @@
-ghost use Rattle.std.specs.Prelude.{◌≡◌, ◌+◌, ◌<◌, ◌≤◌, ℕ, IsTrue, slice_index_or, false, true, OnOk};
+ghost use Rattle.std.specs.Prelude.{◌≡◌, ◌+◌, ◌<◌, ◌≤◌, ℕ, IsTrue, slice_index_or, false, true};
+ghost use Rattle.std.specs.Prelude.{OnOk};
 ghost use Rattle.std.specs.Prelude.{◌↔◌, IsErr, length, slice_set};
 ghost use Rattle.room_base.specs.Calls.{FailsNext};
 ghost use Rattle.room_disk.specs.Disk.{Settled, Quiet};

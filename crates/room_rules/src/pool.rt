@@ -83,9 +83,9 @@ fn allows_level(levels: &Items<Level>, level: Level) -> bool
     levels.is_empty() || levels.contains(&level)
 }
 
-/// The place of the pool that a save goes to: the first in the order of their names whose criteria it
-/// meets, `Default` last, which takes every save. A save without a group has an empty one. Takes no
-/// memory.
+/// The place of the pool that a save goes to: the first in the order of their names whose criteria
+/// it meets, `Default` last, which takes every save. A save without a group has an empty one. Takes
+/// no memory.
 pub fn pool_of(pools: &[Pool], group: &[u8], client: &[u8], set: &[u8], level: Level) -> u32
     requires order { NamesAscend pools.now }
     requires default { HasDefault pools.now }

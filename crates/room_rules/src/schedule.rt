@@ -18,8 +18,8 @@ pub struct Override {
     pub action: Action,
 }
 
-/// Which action there is on which day. A period that is longer than the list of actions goes over it
-/// again and again.
+/// Which action there is on which day. A period that is longer than the list of actions goes over
+/// it again and again.
 #[derive(Debug, PartialEq, Drop)]
 pub struct Schedule {
     pub name: Name,

@@ -1,18 +1,18 @@
 -- Reading the bytes of a file, block by block.
-use Rattle.std.proofs.Common.{◌≡◌, ℕ, suc, ◌+◌, ◌<◌, ◌≤◌, List, [], ◌∷◌, ◌++◌, length, map, Err, refl, sym, ap, subst, ◌∙◌, append_assoc, arith, inl, inr}
+use Rattle.std.proofs.Common.{◌≡◌, ◌≢◌, ℕ, suc, ◌+◌, ◌*◌, ◌<◌, ◌≤◌, List, [], ◌∷◌, ◌++◌, length, map, take, drop, Some, None, Err, refl, sym, ap, subst, ◌∙◌, append_assoc, arith, inl, inr}
 use Rattle.std.proofs.lemmas.List.{append-nil, length-append, length-map, map-append}
 use Rattle.std.proofs.lemmas.Grind.{flat_map-append}
 use Rattle.room_base.specs.Outside.{ClockView}
 use Rattle.volume_block.specs.Chunks.{ChunkText, chunks_text, all_chunks, joined}
-use Rattle.volume_block.specs.Valid.{HoldsChunks, ValidBlock, IsRaw}
+use Rattle.volume_block.specs.Valid.{HoldsChunks, IsRaw}
 use Rattle.volume_block.specs.declared.block.Block.{Block}
 use Rattle.volume_block.specs.declared.block.Block.TheVariants as kinds
 use Rattle.volume_block.specs.declared.block.Reason.{Reason}
-use Rattle.volume_block.proofs.OneBlock.{one_block}
 use Rattle.volume_block.proofs.Appending.{joined_bytes}
-use Rattle.volume_store.specs.Committed.{block_at, DataPlace, Whole, Damaged, IsDataPlace, AreDataPlaces, CommittedFile, Closed, FilesFrom, Contents, Unlabelled, BadLabel, Labelled}
+use Rattle.volume_store.specs.Committed.{data_at, DataPlace, Whole, Damaged, IsDataPlace, AreDataPlaces, CommittedFile, Closed, FilesFrom, Contents, Unlabelled, BadLabel, Labelled}
 use Rattle.volume_store.proofs.OneContents.{one_contents}
-use Rattle.volume_store.specs.Reads.{IsBad}
+use Rattle.volume_store.specs.Reads.{IsBadAt, StandsAt}
+use Rattle.volume_store.proofs.Finding.{one_stands}
 use Rattle.volume_block.specs.declared.label.Label.{Label}
 use Rattle.room_top.specs.Raw.{HasBytes, IsFirstDamaged, IsFileOn, GivesFile}
 use Rattle.room_top.specs.Put.{HadFiles, HasOneFileMore}
@@ -22,15 +22,27 @@ use Rattle.room_top.specs.declared.get.DataFault.TheVariants as faults
 
 -- ---- what is no data block
 
-pub mark_is_damaged : (disk : List ℕ) (volid number count : ℕ) → ValidBlock (block_at disk number) volid number (kinds.Mark count) → IsDataPlace disk volid number Damaged
-mark_is_damaged disk volid number count valid = λ chunks held.
-    let data_block : Block = kinds.Data (length (chunks_text chunks)) in
-    let same : kinds.Mark count ≡ data_block =
-    (one_block (block_at disk number) volid number volid number (kinds.Mark count) data_block valid (chunks, held, refl)).2 in
-    absurd (cc same)
+-- another block than a data block of these units
+pub other_is_damaged : (disk : List ℕ) (volid units number : ℕ) (read : Block) → StandsAt disk volid number read
+    → ((used : ℕ) → read ≢ kinds.Data used units) → IsDataPlace disk volid units number Damaged
+other_is_damaged disk volid units number read stands other = λ chunks held.
+    let data_block : Block = kinds.Data (length (chunks_text chunks)) units in
+    absurd (other (length (chunks_text chunks)) (one_stands disk volid number read data_block stands (chunks, held, refl)))
 
-pub bad_is_damaged : (disk : List ℕ) (volid number : ℕ) (why : Reason) → IsBad (block_at disk number) volid number why → IsDataPlace disk volid number Damaged
-bad_is_damaged disk volid number why bad = λ chunks held. bad.invalid (kinds.Data (length (chunks_text chunks))) (chunks, held, refl)
+pub mark_is_damaged : (disk : List ℕ) (volid units number count told : ℕ) → StandsAt disk volid number (kinds.Mark count told)
+    → IsDataPlace disk volid units number Damaged
+mark_is_damaged disk volid units number count told stands =
+    other_is_damaged disk volid units number (kinds.Mark count told) stands (λ used same. absurd (cc same))
+
+pub units_are_damaged : (disk : List ℕ) (volid units number used told : ℕ) → StandsAt disk volid number (kinds.Data used told) → told ≢ units
+    → IsDataPlace disk volid units number Damaged
+units_are_damaged disk volid units number used told stands other =
+    other_is_damaged disk volid units number (kinds.Data used told) stands
+    (λ (more : ℕ) same. let is : told ≡ units = cc same in absurd (other is))
+
+pub bad_is_damaged : (disk : List ℕ) (volid units number : ℕ) (why : Reason) → IsBadAt disk volid number why → IsDataPlace disk volid units number Damaged
+bad_is_damaged disk volid units number why bad = λ chunks held.
+    bad.invalid (kinds.Data (length (chunks_text chunks)) units) (chunks, held, refl)
 
 -- ---- block by block
 
@@ -45,16 +57,19 @@ pub record HasRead (places : List DataPlace) (bytes : List ℕ) (index : ℕ) : 
 pub none_read : (places : List DataPlace) → HasRead places [] 0
 none_read places = record { whole = []; rest = places; split = refl; counted = refl; are = refl }
 
+-- one step more
+step_more : (units first count : ℕ) → first + units + units * count ≡ first + units * suc count
+step_more units first count = grind arith
+
 -- the place behind whole ones
-place_behind : (disk : List ℕ) (volid first : ℕ) (whole : List (List ChunkText)) (place : DataPlace) (rest : List DataPlace)
-    → AreDataPlaces disk volid first (map Whole whole ++ place ∷ rest) → IsDataPlace disk volid (first + length whole) place
-place_behind disk volid first [] place rest are =
-    let P : ℕ → Type 0 = λ (number : ℕ). IsDataPlace disk volid number place in
-    subst P (let same : first ≡ first + 0 = omega arith in same) are.0
-place_behind disk volid first (chunks ∷ whole) place rest are =
-    let P : ℕ → Type 0 = λ (number : ℕ). IsDataPlace disk volid number place in
-    subst P (let same : first + 1 + length whole ≡ first + suc (length whole) = omega arith in same)
-    (place_behind disk volid (first + 1) whole place rest are.1)
+place_behind : (disk : List ℕ) (volid units first : ℕ) (whole : List (List ChunkText)) (place : DataPlace) (rest : List DataPlace)
+    → AreDataPlaces disk volid units first (map Whole whole ++ place ∷ rest) → IsDataPlace disk volid units (first + units * length whole) place
+place_behind disk volid units first [] place rest are =
+    let P : ℕ → Type 0 = λ (number : ℕ). IsDataPlace disk volid units number place in
+    subst P (let same : first ≡ first + units * 0 = grind arith in same) are.0
+place_behind disk volid units first (chunks ∷ whole) place rest are =
+    let P : ℕ → Type 0 = λ (number : ℕ). IsDataPlace disk volid units number place in
+    subst P (step_more units first (length whole)) (place_behind disk volid units (first + units) whole place rest are.1)
 
 all_more : (whole : List (List ChunkText)) (chunks : List ChunkText) → joined (all_chunks (whole ++ chunks ∷ [])) ≡ joined (all_chunks whole) ++ joined chunks
 all_more [] chunks = ap joined (append-nil chunks)
@@ -64,22 +79,22 @@ all_more (first ∷ whole) chunks =
     ∙ sym (append_assoc (joined first) (joined (all_chunks whole)) (joined chunks))
     ∙ ap (λ (t : List ℕ). t ++ joined chunks) (sym (flat_map-append (λ (one : ChunkText). one.bytes) first (all_chunks whole)))
 
-read_next : (disk : List ℕ) (volid first index : ℕ) (bytes new : List ℕ) (places : List DataPlace) (whole : List (List ChunkText)) (rest : List DataPlace)
+read_next : (disk : List ℕ) (volid units first index : ℕ) (bytes new : List ℕ) (places : List DataPlace) (whole : List (List ChunkText)) (rest : List DataPlace)
     → places ≡ map Whole whole ++ rest → length whole ≡ index → bytes ≡ joined (all_chunks whole) → index < length places
-    → AreDataPlaces disk volid first places → (held : (chunks : List ChunkText) × HoldsChunks (block_at disk (first + index)) volid (first + index) chunks)
-    → ((chunks : List ChunkText) → HoldsChunks (block_at disk (first + index)) volid (first + index) chunks → new ≡ bytes ++ joined chunks)
+    → AreDataPlaces disk volid units first places → (held : (chunks : List ChunkText) × HoldsChunks (data_at units disk (first + units * index)) volid (first + units * index) units chunks)
+    → ((chunks : List ChunkText) → HoldsChunks (data_at units disk (first + units * index)) volid (first + units * index) units chunks → new ≡ bytes ++ joined chunks)
     → HasRead places new (index + 1)
-read_next disk volid first index bytes new places whole [] split counted are inside places_are held added =
+read_next disk volid units first index bytes new places whole [] split counted are inside places_are held added =
     absurd (omega (arith, inside, counted, ap length split, length-append (map Whole whole) [], length-map whole Whole))
-read_next disk volid first index bytes new places whole (Damaged ∷ rest) split counted are inside places_are held added =
-    let P : List DataPlace → Type 0 = λ (all : List DataPlace). AreDataPlaces disk volid first all in
-    let here = place_behind disk volid first whole Damaged rest (subst P split places_are) in
-    let N : ℕ → Type 0 = λ (n : ℕ). IsDataPlace disk volid (first + n) Damaged in
+read_next disk volid units first index bytes new places whole (Damaged ∷ rest) split counted are inside places_are held added =
+    let P : List DataPlace → Type 0 = λ (all : List DataPlace). AreDataPlaces disk volid units first all in
+    let here = place_behind disk volid units first whole Damaged rest (subst P split places_are) in
+    let N : ℕ → Type 0 = λ (n : ℕ). IsDataPlace disk volid units (first + units * n) Damaged in
     absurd (subst N counted here held.0 held.1)
-read_next disk volid first index bytes new places whole (Whole chunks ∷ rest) split counted are inside places_are held added =
-    let P : List DataPlace → Type 0 = λ (all : List DataPlace). AreDataPlaces disk volid first all in
-    let N : ℕ → Type 0 = λ (n : ℕ). IsDataPlace disk volid (first + n) (Whole chunks) in
-    let here = subst N counted (place_behind disk volid first whole (Whole chunks) rest (subst P split places_are)) in
+read_next disk volid units first index bytes new places whole (Whole chunks ∷ rest) split counted are inside places_are held added =
+    let P : List DataPlace → Type 0 = λ (all : List DataPlace). AreDataPlaces disk volid units first all in
+    let N : ℕ → Type 0 = λ (n : ℕ). IsDataPlace disk volid units (first + units * n) (Whole chunks) in
+    let here = subst N counted (place_behind disk volid units first whole (Whole chunks) rest (subst P split places_are)) in
     record {
       whole = whole ++ chunks ∷ [];
       rest = rest;
@@ -88,29 +103,29 @@ read_next disk volid first index bytes new places whole (Whole chunks ∷ rest) 
       are = added chunks here ∙ ap (λ (t : List ℕ). t ++ joined chunks) are ∙ sym (all_more whole chunks);
     }
 
-pub read_more : (disk : List ℕ) (volid first index : ℕ) (bytes new : List ℕ) (places : List DataPlace) → HasRead places bytes index → index < length places
-    → AreDataPlaces disk volid first places → (chunks : List ChunkText) × HoldsChunks (block_at disk (first + index)) volid (first + index) chunks
-    → ((chunks : List ChunkText) → HoldsChunks (block_at disk (first + index)) volid (first + index) chunks → new ≡ bytes ++ joined chunks)
+pub read_more : (disk : List ℕ) (volid units first index : ℕ) (bytes new : List ℕ) (places : List DataPlace) → HasRead places bytes index → index < length places
+    → AreDataPlaces disk volid units first places → (chunks : List ChunkText) × HoldsChunks (data_at units disk (first + units * index)) volid (first + units * index) units chunks
+    → ((chunks : List ChunkText) → HoldsChunks (data_at units disk (first + units * index)) volid (first + units * index) units chunks → new ≡ bytes ++ joined chunks)
     → HasRead places new (index + 1)
-read_more disk volid first index bytes new places so_far inside are held added =
-    read_next disk volid first index bytes new places so_far.whole so_far.rest so_far.split so_far.counted so_far.are inside are held added
+read_more disk volid units first index bytes new places so_far inside are held added =
+    read_next disk volid units first index bytes new places so_far.whole so_far.rest so_far.split so_far.counted so_far.are inside are held added
 
-damaged_next : (disk : List ℕ) (volid first index : ℕ) (bytes : List ℕ) (places : List DataPlace) (whole : List (List ChunkText)) (rest : List DataPlace)
-    → places ≡ map Whole whole ++ rest → length whole ≡ index → index < length places → AreDataPlaces disk volid first places
-    → IsDataPlace disk volid (first + index) Damaged → (more : List DataPlace) × (places ≡ map Whole whole ++ Damaged ∷ more)
-damaged_next disk volid first index bytes places whole [] split counted inside are bad =
+damaged_next : (disk : List ℕ) (volid units first index : ℕ) (bytes : List ℕ) (places : List DataPlace) (whole : List (List ChunkText)) (rest : List DataPlace)
+    → places ≡ map Whole whole ++ rest → length whole ≡ index → index < length places → AreDataPlaces disk volid units first places
+    → IsDataPlace disk volid units (first + units * index) Damaged → (more : List DataPlace) × (places ≡ map Whole whole ++ Damaged ∷ more)
+damaged_next disk volid units first index bytes places whole [] split counted inside are bad =
     absurd (omega (arith, inside, counted, ap length split, length-append (map Whole whole) [], length-map whole Whole))
-damaged_next disk volid first index bytes places whole (Damaged ∷ rest) split counted inside are bad = (rest, split)
-damaged_next disk volid first index bytes places whole (Whole chunks ∷ rest) split counted inside are bad =
-    let P : List DataPlace → Type 0 = λ (all : List DataPlace). AreDataPlaces disk volid first all in
-    let N : ℕ → Type 0 = λ (n : ℕ). IsDataPlace disk volid (first + n) (Whole chunks) in
-    absurd (bad chunks (subst N counted (place_behind disk volid first whole (Whole chunks) rest (subst P split are))))
+damaged_next disk volid units first index bytes places whole (Damaged ∷ rest) split counted inside are bad = (rest, split)
+damaged_next disk volid units first index bytes places whole (Whole chunks ∷ rest) split counted inside are bad =
+    let P : List DataPlace → Type 0 = λ (all : List DataPlace). AreDataPlaces disk volid units first all in
+    let N : ℕ → Type 0 = λ (n : ℕ). IsDataPlace disk volid units (first + units * n) (Whole chunks) in
+    absurd (bad chunks (subst N counted (place_behind disk volid units first whole (Whole chunks) rest (subst P split are))))
 
-pub damaged_first : (disk : List ℕ) (volid index : ℕ) (bytes : List ℕ) (file : CommittedFile) → HasRead file.places bytes index → index < length file.places
-    → AreDataPlaces disk volid (file.mark + 1) file.places → IsDataPlace disk volid (file.mark + 1 + index) Damaged → IsFirstDamaged file (file.mark + 1 + index)
-damaged_first disk volid index bytes file so_far within are bad =
-    let found = damaged_next disk volid (file.mark + 1) index bytes file.places so_far.whole so_far.rest so_far.split so_far.counted within are bad in
-    (so_far.whole, (found.0, found.1, omega (arith, so_far.counted)))
+pub damaged_first : (disk : List ℕ) (volid units index : ℕ) (bytes : List ℕ) (file : CommittedFile) → HasRead file.places bytes index → index < length file.places
+    → AreDataPlaces disk volid units (file.mark + 1) file.places → IsDataPlace disk volid units (file.mark + 1 + units * index) Damaged → IsFirstDamaged units file (file.mark + 1 + units * index)
+damaged_first disk volid units index bytes file so_far within are bad =
+    let found = damaged_next disk volid units (file.mark + 1) index bytes file.places so_far.whole so_far.rest so_far.split so_far.counted within are bad in
+    (so_far.whole, (found.0, found.1, ap (λ (n : ℕ). file.mark + 1 + units * n) (sym so_far.counted)))
 
 all_read : (bytes : List ℕ) (file : CommittedFile) (whole : List (List ChunkText)) (rest : List DataPlace) → file.places ≡ map Whole whole ++ rest
     → length whole ≡ length file.places → bytes ≡ joined (all_chunks whole) → HasBytes file bytes
@@ -121,29 +136,29 @@ all_read bytes file whole (place ∷ rest) split counted are =
 pub read_whole : (bytes : List ℕ) (file : CommittedFile) (index : ℕ) → HasRead file.places bytes index → index ≡ length file.places → HasBytes file bytes
 read_whole bytes file index so_far ended = all_read bytes file so_far.whole so_far.rest so_far.split (so_far.counted ∙ ended) so_far.are
 
-places_among : (disk : List ℕ) (volid mark end : ℕ) (before : List CommittedFile) (file : CommittedFile) (after : List CommittedFile)
-    → FilesFrom disk volid mark (before ++ file ∷ after) (Closed end) → AreDataPlaces disk volid (file.mark + 1) file.places
-places_among disk volid mark end [] file after are =
-    let P : ℕ → Type 0 = λ (m : ℕ). AreDataPlaces disk volid (m + 1) file.places in
+places_among : (disk : List ℕ) (volid units mark end : ℕ) (before : List CommittedFile) (file : CommittedFile) (after : List CommittedFile)
+    → FilesFrom disk volid units mark (before ++ file ∷ after) (Closed end) → AreDataPlaces disk volid units (file.mark + 1) file.places
+places_among disk volid units mark end [] file after are =
+    let P : ℕ → Type 0 = λ (m : ℕ). AreDataPlaces disk volid units (m + 1) file.places in
     subst P (sym are.0) are.2
-places_among disk volid mark end (first ∷ before) file after are =
-    places_among disk volid (mark + length first.places + 1) end before file after are.3
+places_among disk volid units mark end (first ∷ before) file after are =
+    places_among disk volid units (mark + units * length first.places + 1) end before file after are.3
 
 -- ---- what is said of a file
 
-pub data_given : (disk : List ℕ) (volid index : ℕ) (bytes block : List ℕ) (file : CommittedFile) (fault : DataFault)
-    → HasRead file.places bytes index → index < length file.places → AreDataPlaces disk volid (file.mark + 1) file.places
-    → IsDataRead disk volid (file.mark + 1 + index) block (Err fault) → JudgesPlaces file fault
-data_given disk volid index bytes block file faults.Memory so_far within are read = tt
-data_given disk volid index bytes block file faults.Failed so_far within are read = tt
-data_given disk volid index bytes block file (faults.Damaged bad) so_far within are read =
-    let P : ℕ → Type 0 = λ (number : ℕ). IsFirstDamaged file number in
-    subst P (sym read.0) (damaged_first disk volid index bytes file so_far within are read.1)
+pub data_given : (disk : List ℕ) (volid units index : ℕ) (bytes block : List ℕ) (file : CommittedFile) (fault : DataFault)
+    → HasRead file.places bytes index → index < length file.places → AreDataPlaces disk volid units (file.mark + 1) file.places
+    → IsDataRead disk volid units (file.mark + 1 + units * index) block (Err fault) → JudgesPlaces units file fault
+data_given disk volid units index bytes block file faults.Memory so_far within are read = tt
+data_given disk volid units index bytes block file faults.Failed so_far within are read = tt
+data_given disk volid units index bytes block file (faults.Damaged bad) so_far within are read =
+    let P : ℕ → Type 0 = λ (number : ℕ). IsFirstDamaged units file number in
+    subst P (sym read.0) (damaged_first disk volid units index bytes file so_far within are read.1)
 
 -- the data places of a file
 pub places_of : (disk : List ℕ) (number : ℕ) (label : Label) (file : CommittedFile) → IsFileOn disk number label file
-    → AreDataPlaces disk label.volid.0 (file.mark + 1) file.places
-places_of disk number label file on = places_among disk label.volid.0 1 on.mark on.before file on.after on.on.1.1
+    → AreDataPlaces disk label.volid.0 label.units (file.mark + 1) file.places
+places_of disk number label file on = places_among disk label.volid.0 label.units 1 on.mark on.before file on.after on.on.1.1
 
 -- ---- what was put
 

@@ -1,5 +1,5 @@
 -- The label of a raw cartridge may be written.
-use Rattle.std.proofs.Common.{ℕ, ◌≤◌, List, [], ◌∷◌, refl, rules, arith}
+use Rattle.std.proofs.Common.{ℕ, ◌≤◌, List, [], ◌∷◌, refl, inl, rules, arith}
 use Rattle.std.proofs.lemmas.Str.{IsUtf8-from_ascii}
 use Rattle.std.proofs.lemmas.List.Elements.{All-from_recursion}
 use Rattle.room_base.specs.Numbers.{max_moment}
@@ -20,6 +20,7 @@ unfolding raw
 raw_allowed cart made known early = record {
   volid = (omega arith, omega (arith, known.1));
   cart = known;
+  units = inl refl;
   capacity = (omega arith, omega arith);
   made = early;
   pool_length = (omega arith, omega arith);

@@ -1,5 +1,5 @@
 -- What `put` answers and leaves.
-use Rattle.std.specs.Prelude.{◌≡◌, ◌⊎◌, ℕ, ◌+◌, ◌≤◌, ◌<◌, List, [], ◌∷◌, ◌++◌, length, min, codes}
+use Rattle.std.specs.Prelude.{◌≡◌, ◌⊎◌, ℕ, ◌+◌, ◌*◌, ◌≤◌, ◌<◌, List, [], ◌∷◌, ◌++◌, length, min, codes}
 use Rattle.std.specs.Prelude.{slice_index}
 use Rattle.std.specs.Fmt.{decimal}
 use Rattle.std.specs.Int.{div_ceil}
@@ -8,6 +8,7 @@ use Rattle.room_base.specs.Outside.{ClockView, Told, IsFirstMoment}
 use Rattle.room_base.specs.declared.numbers.Moment.{Moment}
 use Rattle.volume_block.specs.Chunks.{ChunkText}
 use Rattle.volume_block.specs.Valid.{IsLabel}
+use Rattle.chunk_mux.specs.Packing.{payload_size, chunk_size}
 use Rattle.volume_block.specs.declared.label.Label.{Label}
 use Rattle.volume_store.specs.Committed.{CommittedFile, Committed, Unlabelled, Labelled, Closed}
 use Rattle.volume_store.specs.Writes.{without_files, with_file, IsBeingLabelled}
@@ -19,9 +20,9 @@ use Rattle.room_top.specs.declared.site.Site.TheVariants as sites
 abbrev pub HasSize : List ℕ → Type 0
 HasSize bytes = (1 ≤ length bytes) × (length bytes ≤ 257024)
 
--- how many data blocks so many bytes take
-abbrev pub blocks_for : ℕ → ℕ
-blocks_for size = div_ceil size 4016
+-- how many data blocks of so many units so many bytes take
+abbrev pub blocks_for : ℕ → ℕ → ℕ
+blocks_for units size = div_ceil size (chunk_size (payload_size units))
 
 -- the first byte of a cartridge opens a label
 abbrev pub IsOccupied : List ℕ → Type 0
@@ -98,17 +99,20 @@ IsSite clock cart before (sites.Next volume number) =
 -- there is room for so many bytes, and all numbers are in their ranges
 abbrev pub IsSiteFor : ℕ → ℕ → Site → Type 0
 IsSiteFor cart size (sites.New label) =
-    (label.cart.0 ≡ cart) × IsLabel label × (blocks_for size + 3 ≤ label.capacity)
+    (label.cart.0 ≡ cart) × IsLabel label
+    × (label.units * blocks_for label.units size + 3 ≤ label.capacity)
 IsSiteFor cart size (sites.Next volume number) =
     (volume.cart.0 ≡ cart) × IsLabel volume.label × (1 ≤ volume.mark)
-    × (volume.mark + blocks_for size + 2 ≤ volume.label.capacity) × (1 ≤ number)
+    × (volume.mark + volume.label.units * blocks_for volume.label.units size + 2
+    ≤ volume.label.capacity) × (1 ≤ number)
 
 -- there is room for so many data blocks
 abbrev pub HasRoom : ℕ → ℕ → Site → Type 0
 HasRoom cart count (sites.New label) =
-    (label.cart.0 ≡ cart) × IsLabel label × (count + 3 ≤ label.capacity)
+    (label.cart.0 ≡ cart) × IsLabel label × (label.units * count + 3 ≤ label.capacity)
 HasRoom cart count (sites.Next volume number) =
-    (volume.cart.0 ≡ cart) × (volume.mark + count + 2 ≤ volume.label.capacity)
+    (volume.cart.0 ≡ cart)
+    × (volume.mark + volume.label.units * count + 2 ≤ volume.label.capacity)
 
 abbrev pub site_number : Site → ℕ
 site_number (sites.New label) = 1
@@ -122,7 +126,11 @@ abbrev pub site_volid : Site → ℕ
 site_volid (sites.New label) = label.volid.0
 site_volid (sites.Next volume number) = volume.label.volid.0
 
+abbrev pub site_units : Site → ℕ
+site_units (sites.New label) = label.units
+site_units (sites.Next volume number) = volume.label.units
+
 -- a raw cartridge that has no room for so many bytes
 abbrev pub IsFull : ℕ → List ℕ → Type 0
 IsFull size before = (label : Label) × ((files : List CommittedFile) × ((mark : ℕ)
-    × IsRawCartridge before label files mark × (label.capacity < mark + blocks_for size + 2)))
+    × IsRawCartridge before label files mark × (label.capacity < mark + label.units * blocks_for label.units size + 2)))

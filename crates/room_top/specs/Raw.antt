@@ -1,5 +1,5 @@
 -- Raw cartridges, which hold files of bytes and no save sets.
-use Rattle.std.specs.Prelude.{◌≡◌, ◌⊎◌, ℕ, ◌+◌, ◌≤◌, ◌<◌, ◌^◌, List, ◌∷◌, ◌++◌, length, map}
+use Rattle.std.specs.Prelude.{◌≡◌, ◌⊎◌, ℕ, ◌+◌, ◌*◌, ◌≤◌, ◌<◌, ◌^◌, List, ◌∷◌, ◌++◌, length, map}
 use Rattle.std.specs.Prelude.{replicate}
 use Rattle.volume_block.specs.Chunks.{ChunkText, all_chunks, JoinFrom, joined}
 use Rattle.volume_block.specs.Valid.{IsRaw}
@@ -7,7 +7,7 @@ use Rattle.volume_block.specs.declared.label.Label.{Label}
 use Rattle.volume_store.specs.Committed.{DataPlace, Whole, Damaged, CommittedFile, Closed, Stop}
 use Rattle.volume_store.specs.Committed.{BadLabel, Labelled, Committed, HasLabel}
 
--- the label of a raw cartridge: volume 2^63 + cart, pool `Raw`, capacity 1,000,000
+-- the label of a raw cartridge: volume 2^63 + cart, pool `Raw`, capacity 1,000,000, one unit
 abbrev pub raw_label : ℕ → ℕ → Label
 raw_label cart made = record {
   volid = record { 0 = 2 ^ 63 + cart };
@@ -16,6 +16,7 @@ raw_label cart made = record {
   made = record { 0 = made };
   pool_length = 3;
   pool = 0x52 ∷ 0x61 ∷ 0x77 ∷ replicate 61 0;
+  units = 1;
 }
 
 -- a raw cartridge with these files, which end at a closed mark place
@@ -38,10 +39,10 @@ HasBytes file bytes =
     (blocks : List (List ChunkText)) × (file.places ≡ map Whole blocks)
     × (bytes ≡ joined (all_chunks blocks))
 
--- the first damaged data block of a file
-abbrev pub IsFirstDamaged : CommittedFile → ℕ → Type 0
-IsFirstDamaged file block = (blocks : List (List ChunkText)) × ((rest : List DataPlace)
-    × (file.places ≡ map Whole blocks ++ Damaged ∷ rest) × (block ≡ file.mark + 1 + length blocks))
+-- the first damaged data block of a file, each of whose data blocks has so many units
+abbrev pub IsFirstDamaged : ℕ → CommittedFile → ℕ → Type 0
+IsFirstDamaged units file block = (blocks : List (List ChunkText)) × ((rest : List DataPlace)
+    × (file.places ≡ map Whole blocks ++ Damaged ∷ rest) × (block ≡ file.mark + 1 + units * length blocks))
 
 -- a file of a raw cartridge, by its number, counted from 1
 pub record IsFileOn (disk : List ℕ) (number : ℕ) (label : Label)
@@ -61,7 +62,7 @@ GivesFile disk number bytes =
 -- the file with this number has a damaged data block, and this is the first
 abbrev pub IsDamagedIn : List ℕ → ℕ → ℕ → ℕ → Type 0
 IsDamagedIn disk number volid block = (label : Label) × ((file : CommittedFile)
-    × IsFileOn disk number label file × (volid ≡ label.volid.0) × IsFirstDamaged file block)
+    × IsFileOn disk number label file × (volid ≡ label.volid.0) × IsFirstDamaged label.units file block)
 
 -- there is no file with this number
 abbrev pub LacksFile : List ℕ → ℕ → Type 0

@@ -1,5 +1,5 @@
 -- What each stage of `put` and of `get` answers, and what follows from it.
-use Rattle.std.specs.Prelude.{◌≡◌, ◌⊎◌, ℕ, ◌+◌, ◌≤◌, ◌<◌, ◌^◌, List, [], length, take, drop, codes}
+use Rattle.std.specs.Prelude.{◌≡◌, ◌⊎◌, ℕ, ◌+◌, ◌*◌, ◌≤◌, ◌<◌, ◌^◌, List, [], length, take, drop, codes}
 use Rattle.std.specs.Prelude.{Result, Ok, Err}
 use Rattle.std.specs.Fmt.{decimal}
 use Rattle.room_base.specs.Outside.{later_moments}
@@ -7,7 +7,7 @@ use Rattle.room_base.specs.declared.numbers.Cart.{Cart}
 use Rattle.room_base.specs.declared.numbers.Moment.{Moment}
 use Rattle.room_base.specs.declared.refusal.Refusal.TheVariants as refusals
 use Rattle.volume_block.specs.declared.label.Label.{Label}
-use Rattle.volume_store.specs.Committed.{block_at, IsDataPlace, Damaged, CommittedFile, Committed}
+use Rattle.volume_store.specs.Committed.{data_at, IsDataPlace, Damaged, CommittedFile, Committed}
 use Rattle.volume_store.specs.Committed.{Unlabelled}
 use Rattle.volume_store.specs.declared.marks.FilePlace.{FilePlace}
 use Rattle.room_top.specs.Raw.{IsFileOn, IsFirstDamaged, IsDamagedIn}
@@ -106,24 +106,25 @@ file_status cart number file_faults.NoFile =
     status.Refused (refusals.NoSuch (codes "file") (decimal number))
 
 -- the numbers of a place are in their ranges
-abbrev pub IsPlaceWithin : FilePlace → Type 0
-IsPlaceWithin place = (place.count ≤ 64) × (place.mark + place.count < 2 ^ 52)
+abbrev pub IsPlaceWithin : ℕ → FilePlace → Type 0
+IsPlaceWithin units place =
+    (place.count ≤ 64) × (place.mark + units * place.count < 2 ^ 52)
 
 -- the place of the file with this number on the raw cartridge with this label
 abbrev pub IsPlaceOf : List ℕ → ℕ → Label → FilePlace → Type 0
 IsPlaceOf disk number label place = (file : CommittedFile) × IsFileOn disk number label file
     × (place.mark ≡ file.mark) × (place.count ≡ length file.places)
 
--- a data block was read, or the place is damaged
-abbrev pub IsDataRead : List ℕ → ℕ → ℕ → List ℕ → Result (Unit {0}) DataFault → Type 0
-IsDataRead disk volid number block (Ok _) = block ≡ block_at disk number
-IsDataRead disk volid number block (Err data_faults.Memory) = Unit {0}
-IsDataRead disk volid number block (Err data_faults.Failed) = Unit {0}
-IsDataRead disk volid number block (Err (data_faults.Damaged bad)) =
-    (bad ≡ number) × IsDataPlace disk volid number Damaged
+-- a data block of so many units was read, or the place is damaged
+abbrev pub IsDataRead : List ℕ → ℕ → ℕ → ℕ → List ℕ → Result (Unit {0}) DataFault → Type 0
+IsDataRead disk volid units number block (Ok _) = block ≡ data_at units disk number
+IsDataRead disk volid units number block (Err data_faults.Memory) = Unit {0}
+IsDataRead disk volid units number block (Err data_faults.Failed) = Unit {0}
+IsDataRead disk volid units number block (Err (data_faults.Damaged bad)) =
+    (bad ≡ number) × IsDataPlace disk volid units number Damaged
 
 -- the first data block of a file that is damaged
-abbrev pub JudgesPlaces : CommittedFile → DataFault → Type 0
-JudgesPlaces file data_faults.Memory = Unit {0}
-JudgesPlaces file data_faults.Failed = Unit {0}
-JudgesPlaces file (data_faults.Damaged block) = IsFirstDamaged file block
+abbrev pub JudgesPlaces : ℕ → CommittedFile → DataFault → Type 0
+JudgesPlaces units file data_faults.Memory = Unit {0}
+JudgesPlaces units file data_faults.Failed = Unit {0}
+JudgesPlaces units file (data_faults.Damaged block) = IsFirstDamaged units file block

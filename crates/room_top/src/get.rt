@@ -1,8 +1,9 @@
-ghost use Rattle.std.specs.Prelude.{◌≡◌, ◌+◌, ◌≤◌, ◌<◌, ◌^◌, ℕ, List, length, Err, IfOk, OnOk};
-ghost use Rattle.std.specs.Prelude.{MatchResult};
+ghost use Rattle.std.specs.Prelude.{◌≡◌, ◌+◌, ◌≤◌, ◌<◌, ◌^◌, ℕ, List, length, take, Err, IfOk, OnOk};
+ghost use Rattle.std.specs.Prelude.{MatchResult, vec_len};
 ghost use Rattle.room_base.specs.Outside.{SourceView, ClockView, Told};
 ghost use Rattle.room_disk.specs.Disk.{Quiet, FaultCause};
 ghost use Rattle.volume_block.specs.Chunks.{ChunkText};
+ghost use Rattle.volume_block.specs.Layout.{IsUnits, data_size};
 ghost use Rattle.volume_block.specs.Valid.{HoldsChunks, IsRaw};
 ghost use Rattle.volume_store.specs.Committed.{CommittedFile, HasLabel, AreDataPlaces};
 ghost use Rattle.volume_store.specs.Writes.{cart_file, IsCart};
@@ -15,11 +16,11 @@ ghost use Rattle.room_top.specs.declared.get.FileFault.TheVariants as file_fault
 
 use crate::Status;
 use crate::fault_status::file_status_of;
-use crate::raw::CHUNK_SIZE;
+use crate::raw::chunk_size;
 use room_base::{Cart, Sink, Volid, write_all};
 use room_disk::Store;
-use std::alloc::Global;
-use volume_block::{BLOCK_SIZE, Block, Label, append_chunks};
+use std::alloc::{AllocError, Global};
+use volume_block::{BLOCK_SIZE, Block, Label, MAX_BLOCK_SIZE, append_chunks};
 use volume_store::{FilePlace, Found, ReadFault, WalkFault, read_block, read_label, walk_marks};
 
 /// Why a file isn't read.
@@ -68,7 +69,7 @@ pub fn read_file<D: Store>(
 {
     let label = find_raw_label(cart, disk)?;
     let place = find_place(cart, &label, number, disk)?;
-    match read_places(alloc, cart, label.volid, place, disk) {
+    match read_places(alloc, cart, &label, place, disk) {
         Ok(bytes) => Ok(bytes),
         Err(DataFault::Memory) => Err(FileFault::Memory),
         Err(DataFault::Failed) => Err(FileFault::Failed),
@@ -87,6 +88,7 @@ fn find_raw_label<D: Store>(cart: Cart, disk: &mut D) -> Result<Label, FileFault
     ensures tells { (D.view disk.new).tells ≡ (D.view disk.old).tells }
     ensures quiet { Told (D.view disk.old).tells (Quiet (D.view disk.old) (D.view disk.new)) }
     ensures raw { IfOk result IsRaw }
+    ensures units { IfOk result (λ label. IsUnits label.units) }
     ensures found { Told (D.view disk.old).tells ((number : ℕ) → MatchResult result
         (HasLabel ((D.view disk.old).reads (cart_file cart.0)))
         (JudgesFile number ((D.view disk.old).reads (cart_file cart.0)))) }
@@ -115,17 +117,18 @@ fn find_place<D: Store>(
     requires cart { IsCart cart.0 }
     requires number { 1 ≤ number }
     requires raw { IsRaw label.now }
+    requires units { IsUnits label.now.units }
     ensures cause { FaultCause (cart_file cart.0) (D.view disk.old) (D.view disk.new)
         (result ≡ Err file_faults.Failed) }
     ensures tells { (D.view disk.new).tells ≡ (D.view disk.old).tells }
-    ensures within { IfOk result IsPlaceWithin }
+    ensures within { IfOk result (IsPlaceWithin label.now.units) }
     ensures quiet { Told (D.view disk.old).tells (Quiet (D.view disk.old) (D.view disk.new)) }
     ensures found { Told (D.view disk.old).tells
         (HasLabel ((D.view disk.old).reads (cart_file cart.0)) label.now → MatchResult result
         (IsPlaceOf ((D.view disk.old).reads (cart_file cart.0)) number label.now)
         (JudgesFile number ((D.view disk.old).reads (cart_file cart.0)))) }
 {
-    match walk_marks(disk, cart, label.volid, number) {
+    match walk_marks(disk, cart, label.volid, label.units, number) {
         Ok(walk) => match walk.wanted {
             Some(place) => Ok(place),
             None => Err(FileFault::NoFile),
@@ -142,59 +145,73 @@ fn find_place<D: Store>(
 fn read_places<D: Store>(
     alloc: Global,
     cart: Cart,
-    volid: Volid,
+    label: &Label,
     place: FilePlace,
     disk: &mut D,
 ) -> Result<Vec<u8>, DataFault>
     requires cart { IsCart cart.0 }
-    requires place { IsPlaceWithin place }
+    requires units { IsUnits label.now.units }
+    requires place { IsPlaceWithin label.now.units place }
     ensures cause { FaultCause (cart_file cart.0) (D.view disk.old) (D.view disk.new)
         (result ≡ Err data_faults.Failed) }
     ensures tells { (D.view disk.new).tells ≡ (D.view disk.old).tells }
     ensures quiet { Told (D.view disk.old).tells (Quiet (D.view disk.old) (D.view disk.new)) }
     ensures given { Told (D.view disk.old).tells
         ((file : CommittedFile) → (place.mark ≡ file.mark) → (place.count ≡ length file.places)
-        → AreDataPlaces ((D.view disk.old).reads (cart_file cart.0)) volid.0
-        (file.mark + 1) file.places
-        → MatchResult result (λ bytes. HasBytes file bytes.items) (JudgesPlaces file)) }
+        → AreDataPlaces ((D.view disk.old).reads (cart_file cart.0)) label.now.volid.0
+        label.now.units (file.mark + 1) file.places
+        → MatchResult result (λ bytes. HasBytes file bytes.items)
+        (JudgesPlaces label.now.units file)) }
 {
     let count = place.count as usize;
-    let Ok(mut bytes) = Vec::with_capacity(alloc, count * CHUNK_SIZE) else {
+    let Ok(mut bytes) = Vec::with_capacity(alloc, count * chunk_size(label.units)) else {
         return Err(DataFault::Memory);
     };
-    let mut block = [0; BLOCK_SIZE];
+    let Ok(mut block) = block_buffer(alloc) else {
+        return Err(DataFault::Memory);
+    };
+    let size = BLOCK_SIZE * label.units as usize;
     for index in 0..count {
-        let number = place.mark + 1 + index as u64;
-        read_data(cart, volid, number, disk, &mut block)?;
-        let Ok(()) = append_chunks(&block, &mut bytes) else {
+        let number = place.mark + 1 + u64::from(label.units) * index as u64;
+        read_data(cart, label, number, disk, &mut block)?;
+        let Ok(()) = append_chunks(&block[..size], &mut bytes) else {
             return Err(DataFault::Memory);
         };
     }
     Ok(bytes)
 }
 
-// Reads a block that is to be a data block.
+// Room for the largest block.
+fn block_buffer(alloc: Global) -> Result<Vec<u8>, AllocError>
+    ensures { IfOk result (λ buffer. vec_len buffer ≡ 65536) }
+{
+    vec![in alloc; 0; MAX_BLOCK_SIZE]
+}
+
+// Reads a block that is to be a data block of the volume.
 fn read_data<D: Store>(
     cart: Cart,
-    volid: Volid,
+    label: &Label,
     number: u64,
     disk: &mut D,
     block: &mut [u8],
 ) -> Result<(), DataFault>
     requires cart { IsCart cart.0 }
-    requires number { number < 2 ^ 52 }
-    requires whole { length block.old ≡ 4096 }
+    requires whole { length block.old ≡ 65536 }
     ensures cause { FaultCause (cart_file cart.0) (D.view disk.old) (D.view disk.new)
         (result ≡ Err data_faults.Failed) }
     ensures tells { (D.view disk.new).tells ≡ (D.view disk.old).tells }
     ensures quiet { Told (D.view disk.old).tells (Quiet (D.view disk.old) (D.view disk.new)) }
     ensures holds { OnOk result
-        ((chunks : List ChunkText) × HoldsChunks block.new volid.0 number chunks) }
+        ((chunks : List ChunkText) × HoldsChunks (take (data_size label.now.units) block.new)
+        label.now.volid.0 number label.now.units chunks) }
     ensures read { Told (D.view disk.old).tells
-        (IsDataRead ((D.view disk.old).reads (cart_file cart.0)) volid.0 number block.new result) }
+        (IsDataRead ((D.view disk.old).reads (cart_file cart.0)) label.now.volid.0
+        label.now.units number (take (data_size label.now.units) block.new) result) }
 {
-    match read_block(disk, cart, volid, number, block) {
-        Ok(Block::Data { .. }) => Ok(()),
+    match read_block(disk, cart, label.volid, number, block) {
+        Ok(Block::Data { units, .. }) if units == label.units => Ok(()),
+        Ok(Block::Data { .. }) => Err(DataFault::Damaged { block: number }),
         Ok(Block::Label(_)) => Err(DataFault::Damaged { block: number }),
         Ok(Block::Mark { .. }) => Err(DataFault::Damaged { block: number }),
         Err(ReadFault::Bad(_)) => Err(DataFault::Damaged { block: number }),

@@ -83,6 +83,7 @@ fn put_label(disk: &mut MemStore, volid: Volid, capacity: u32) -> bool
 {
     let raw = raw_label_of(Cart(1), Moment(1_700_000_000));
     let label = Label {
+        units: 1,
         volid,
         capacity,
         ..raw

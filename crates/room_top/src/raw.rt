@@ -1,20 +1,29 @@
 ghost use Rattle.std.specs.Prelude.{◌≡◌, ◌≤◌};
 ghost use Rattle.room_base.specs.Numbers.{max_moment};
+ghost use Rattle.volume_block.specs.Layout.{IsUnits};
 ghost use Rattle.volume_block.specs.Valid.{IsLabel};
+ghost use Rattle.chunk_mux.specs.Packing.{payload_size, chunk_size};
 ghost use Rattle.volume_store.specs.Writes.{IsCart};
 ghost use Rattle.room_top.specs.Raw.{raw_label};
 ghost use Rattle.room_top.specs.Put.{blocks_for};
 
 use room_base::{Cart, Moment, Volid};
 use volume_block::{
-    CHUNK_HEAD_SIZE, FIRST_RAW_VOLID, Label, MAX_CAPACITY, MAX_FILE_BLOCKS, PAYLOAD_SIZE,
+    BLOCK_SIZE, CHUNK_HEAD_SIZE, FIRST_RAW_VOLID, Label, MAX_CAPACITY, MAX_FILE_BLOCKS,
+    PAYLOAD_START,
 };
 
-/// The most bytes of a raw file: 64 data blocks, each with one chunk.
-pub const MAX_FILE_SIZE: usize = MAX_FILE_BLOCKS as usize * CHUNK_SIZE;
+/// The most bytes of a raw file: 64 data blocks of one unit, each with one chunk.
+pub const MAX_FILE_SIZE: usize = MAX_FILE_BLOCKS as usize
+    * (BLOCK_SIZE - PAYLOAD_START - CHUNK_HEAD_SIZE);
 
-/// The bytes of a file that one data block holds.
-pub const CHUNK_SIZE: usize = PAYLOAD_SIZE - CHUNK_HEAD_SIZE;
+/// The bytes of a file that a data block of so many units holds.
+pub fn chunk_size(units: u32) -> usize
+    requires { IsUnits units }
+    ensures { result ≡ chunk_size (payload_size units) }
+{
+    BLOCK_SIZE * units as usize - PAYLOAD_START - CHUNK_HEAD_SIZE
+}
 
 /// The label of a raw cartridge.
 pub fn raw_label_of(cart: Cart, made: Moment) -> Label
@@ -34,13 +43,15 @@ pub fn raw_label_of(cart: Cart, made: Moment) -> Label
         made,
         pool_length: 3,
         pool,
+        units: 1,
     }
 }
 
-/// How many data blocks so many bytes of a file take.
-pub fn blocks_for(size: usize) -> u32
-    requires { size ≤ 257024 }
-    ensures { result ≡ blocks_for size }
+/// How many data blocks of so many units so many bytes of a file take.
+pub fn blocks_for(units: u32, size: usize) -> u32
+    requires units { IsUnits units }
+    requires size { size ≤ 257024 }
+    ensures { result ≡ blocks_for units size }
 {
-    size.div_ceil(CHUNK_SIZE) as u32
+    size.div_ceil(chunk_size(units)) as u32
 }

@@ -1,6 +1,6 @@
 //! Finds where the next file of a cartridge goes.
 
-ghost use Rattle.std.specs.Prelude.{◌≡◌, ◌≢◌, ◌↔◌, ◌+◌, ◌≤◌, ◌<◌, ◌^◌, Err, IsTrue, IfOk, OnOk};
+ghost use Rattle.std.specs.Prelude.{◌≡◌, ◌≢◌, ◌↔◌, ◌+◌, ◌*◌, ◌≤◌, ◌<◌, ◌^◌, Err, IsTrue, IfOk, OnOk};
 ghost use Rattle.std.specs.Prelude.{MatchResult};
 ghost use Rattle.room_base.specs.Faults.{HasCause, Rose};
 ghost use Rattle.room_base.specs.Outside.{ClockView, Told, later_moments};
@@ -9,7 +9,7 @@ ghost use Rattle.volume_block.specs.Valid.{IsLabel};
 ghost use Rattle.volume_store.specs.Committed.{HasLabel};
 ghost use Rattle.volume_store.specs.Writes.{cart_file, IsCart};
 ghost use Rattle.room_top.specs.Put.{IsSite, IsSiteFor, IsNewLabel, blocks_for};
-ghost use Rattle.room_top.specs.Put.{site_number, site_mark, site_volid};
+ghost use Rattle.room_top.specs.Put.{site_number, site_mark, site_volid, site_units};
 ghost use Rattle.room_top.specs.Stages.{JudgesSite, IsNext, SiteAsks};
 ghost use Rattle.room_top.specs.declared.site.SiteFault.TheVariants as site_faults;
 
@@ -58,6 +58,16 @@ impl Site {
         match self {
             Site::New(_) => FIRST_MARK,
             Site::Next { volume, .. } => volume.mark,
+        }
+    }
+
+    /// How many units each data block of the volume has.
+    pub fn units(&self) -> u32
+        ensures { result ≡ site_units self.now }
+    {
+        match self {
+            Site::New(label) => label.units,
+            Site::Next { volume, .. } => volume.label.units,
         }
     }
 
@@ -155,7 +165,7 @@ fn next_site<D: Store>(
     if !label.is_raw() {
         return Err(SiteFault::Occupied);
     }
-    let walk = match walk_marks(disk, cart, label.volid, 0) {
+    let walk = match walk_marks(disk, cart, label.volid, label.units, 0) {
         Ok(walk) => walk,
         Err(WalkFault::BadMark { number }) => {
             return Err(SiteFault::Damaged {
@@ -181,9 +191,12 @@ fn next_site<D: Store>(
 
 // Whether a file of so many bytes has room at this mark place.
 fn has_room(label: &Label, mark: u64, size: usize) -> bool
+    requires label { IsLabel label.now }
     requires size { size ≤ 257024 }
     requires mark { mark < 2 ^ 52 }
-    ensures { IsTrue result ↔ (mark + blocks_for size + 2 ≤ label.now.capacity) }
+    ensures { IsTrue result ↔ (mark + label.now.units * blocks_for label.now.units size + 2
+        ≤ label.now.capacity) }
 {
-    mark + u64::from(blocks_for(size)) + 2 <= u64::from(label.capacity)
+    let units = u64::from(label.units) * u64::from(blocks_for(label.units, size));
+    mark + units + 2 <= u64::from(label.capacity)
 }

@@ -1,4 +1,4 @@
-ghost use Rattle.std.specs.Prelude.{◌≡◌, ◌+◌, ◌≤◌, ℕ, [], List, length, Err, OnOk};
+ghost use Rattle.std.specs.Prelude.{◌≡◌, ◌+◌, ◌*◌, ◌≤◌, ℕ, [], List, length, Err, OnOk};
 ghost use Rattle.room_base.specs.Outside.{ClockView, Told};
 ghost use Rattle.room_disk.specs.Disk.{Quiet, Others, Settled, Leaves, OnFile};
 ghost use Rattle.room_disk.specs.Disk.{FileCause, FaultCause};
@@ -9,7 +9,7 @@ ghost use Rattle.volume_store.specs.Committed.{Committed};
 ghost use Rattle.volume_store.specs.Writes.{cart_file, IsCart, with_file};
 ghost use Rattle.room_top.specs.Raw.{JoinTo};
 ghost use Rattle.room_top.specs.Put.{HasSize, HasOneFileMore, IsPut, IsFirstFile, IsSite};
-ghost use Rattle.room_top.specs.Put.{IsSiteFor, HasRoom, site_number, site_mark, site_volid};
+ghost use Rattle.room_top.specs.Put.{IsSiteFor, HasRoom, site_number, site_mark, site_volid, site_units};
 ghost use Rattle.room_top.specs.declared.store.StoreFault.TheVariants as store_faults;
 
 use crate::site::Site;
@@ -63,7 +63,7 @@ pub fn store_file<D: Store>(
         (IsPut clock cart.0 bytes.now ((D.view disk.old).reads (cart_file cart.0)))
         (D.view disk.old))) }
 {
-    let Ok(mut buffer) = MuxBuffer::new(alloc) else {
+    let Ok(mut buffer) = MuxBuffer::new(alloc, site.units()) else {
         return Err(StoreFault::Memory);
     };
     let number = site.number();
@@ -86,7 +86,8 @@ fn store_region<D: Store>(
 ) -> Result<(), Failed>
     requires cart { IsCart cart.0 }
     requires sealed { (blocks : List (List ChunkText)) × (length blocks ≡ count)
-        × IsSealed (site_volid site.now) (site_mark site.now) blocks region.now }
+        × IsSealed (site_volid site.now) (site_mark site.now) (site_units site.now) blocks
+        region.now }
     requires ready { HasRoom cart.0 count site.now }
     ensures cause { FileCause (cart_file cart.0) (D.view disk.old) (D.view disk.new) result }
     ensures tells { (D.view disk.new).tells ≡ (D.view disk.old).tells }
@@ -94,7 +95,8 @@ fn store_region<D: Store>(
         (Others (cart_file cart.0) (D.view disk.old) (D.view disk.new)) }
     ensures stored { Told (D.view disk.old).tells
         ((clock : ClockView) (blocks : List (List ChunkText)) (bytes : List ℕ)
-        → IsSealed (site_volid site.now) (site_mark site.now) blocks region.now
+        → IsSealed (site_volid site.now) (site_mark site.now) (site_units site.now) blocks
+        region.now
         → JoinTo (site_number site.now) blocks bytes
         → IsSite clock cart.0 ((D.view disk.old).reads (cart_file cart.0)) site.now
         → OnOk result
@@ -105,7 +107,8 @@ fn store_region<D: Store>(
         (OnOk result (Settled (D.view disk.new) (cart_file cart.0))) }
     ensures moments { Told (D.view disk.old).tells
         ((clock : ClockView) (blocks : List (List ChunkText)) (bytes : List ℕ)
-        → IsSealed (site_volid site.now) (site_mark site.now) blocks region.now
+        → IsSealed (site_volid site.now) (site_mark site.now) (site_units site.now) blocks
+        region.now
         → JoinTo (site_number site.now) blocks bytes
         → IsSite clock cart.0 ((D.view disk.old).reads (cart_file cart.0)) site.now
         → Settled (D.view disk.old) (cart_file cart.0)
@@ -131,21 +134,21 @@ fn store_first_file<D: Store>(
 ) -> Result<(), Failed>
     requires label { IsLabel label.now }
     requires sealed { (blocks : List (List ChunkText)) × (length blocks ≡ count)
-        × IsSealed label.now.volid.0 1 blocks region.now }
-    requires room { count + 3 ≤ label.now.capacity }
+        × IsSealed label.now.volid.0 1 label.now.units blocks region.now }
+    requires room { label.now.units * count + 3 ≤ label.now.capacity }
     ensures cause { FileCause (cart_file label.now.cart.0) (D.view disk.old)
         (D.view disk.new) result }
     ensures tells { (D.view disk.new).tells ≡ (D.view disk.old).tells }
     ensures others { Told (D.view disk.old).tells
         (Others (cart_file label.now.cart.0) (D.view disk.old) (D.view disk.new)) }
     ensures stored { Told (D.view disk.old).tells ((blocks : List (List ChunkText))
-        → IsSealed label.now.volid.0 1 blocks region.now
+        → IsSealed label.now.volid.0 1 label.now.units blocks region.now
         → OnOk result (Committed ((D.view disk.new).reads (cart_file label.now.cart.0))
         (with_file label.now [] 1 blocks))) }
     ensures settled { Told (D.view disk.old).tells
         (OnOk result (Settled (D.view disk.new) (cart_file label.now.cart.0))) }
     ensures moments { Told (D.view disk.old).tells ((blocks : List (List ChunkText))
-        → IsSealed label.now.volid.0 1 blocks region.now
+        → IsSealed label.now.volid.0 1 label.now.units blocks region.now
         → Settled (D.view disk.old) (cart_file label.now.cart.0)
         → Leaves (D.view disk.old) (D.view disk.new) (OnFile (cart_file label.now.cart.0)
         (IsFirstFile label.now blocks ((D.view disk.old).reads (cart_file label.now.cart.0)))

@@ -7,6 +7,7 @@ use Rattle.volume_block.specs.Valid.{HoldsChunks}
 use Rattle.volume_block.specs.Places.{SplitsAt, IsChunkPlace, FindsFirst}
 use Rattle.volume_block.specs.declared.block.Chunk.{Chunk}
 use Rattle.volume_block.proofs.Lengths.{length-chunk_text}
+use Rattle.volume_block.proofs.Finding.{at_place, reads_at}
 
 -- chunks that join to bytes have these bytes
 pub joined_bytes : (ssid copy offset : ℕ) (chunks : List ChunkText) (bytes : List ℕ) → JoinFrom ssid copy offset chunks bytes → joined chunks ≡ bytes
@@ -27,10 +28,10 @@ pub record HasAppended (start bytes : List ℕ) (at : ℕ) (chunks : List ChunkT
 pub none_appended : (start : List ℕ) (chunks : List ChunkText) → HasAppended start start 0 chunks
 none_appended start chunks = record { before = []; after = chunks; split = refl; stands = refl; are = sym (append-nil start) }
 
-pub splits : (block start bytes : List ℕ) (volid number at : ℕ) (chunks : List ChunkText) → HoldsChunks block volid number chunks
-    → (so_far : HasAppended start bytes at chunks) → SplitsAt block volid number at so_far.before so_far.after
-splits block start bytes volid number at chunks held so_far =
-    let P : List ChunkText → Type 0 = λ (all : List ChunkText). HoldsChunks block volid number all in
+pub splits : (block start bytes : List ℕ) (volid number units at : ℕ) (chunks : List ChunkText) → HoldsChunks block volid number units chunks
+    → (so_far : HasAppended start bytes at chunks) → SplitsAt block volid number units at so_far.before so_far.after
+splits block start bytes volid number units at chunks held so_far =
+    let P : List ChunkText → Type 0 = λ (all : List ChunkText). HoldsChunks block volid number units all in
     record { holds = subst P so_far.split held; stands = so_far.stands }
 
 append_first : (block start bytes new : List ℕ) (at : ℕ) (chunks before after : List ChunkText) (found : Chunk) → chunks ≡ before ++ after
@@ -47,13 +48,13 @@ append_first block start bytes new at chunks before (chunk ∷ after) found spli
       ∙ ap (λ (t : List ℕ). start ++ t) (sym (flat_map-append (λ (one : ChunkText). one.bytes) before (chunk ∷ [])));
 }
 
-pub append_more : (block start bytes new : List ℕ) (volid number at : ℕ) (chunks : List ChunkText) (found : Chunk) → HoldsChunks block volid number chunks
+pub append_more : (block start bytes new : List ℕ) (volid number units at : ℕ) (chunks : List ChunkText) (found : Chunk) → HoldsChunks block volid number units chunks
     → HasAppended start bytes at chunks
-    → ((v n : ℕ) (before after : List ChunkText) → SplitsAt block v n at before after → FindsFirst block at after (Some found))
+    → ((v n u : ℕ) (before after : List ChunkText) → SplitsAt block v n u at before after → FindsFirst block at after (Some found))
     → new ≡ bytes ++ take found.length (drop found.start block) → HasAppended start new found.next chunks
-append_more block start bytes new volid number at chunks found held so_far finds added =
+append_more block start bytes new volid number units at chunks found held so_far finds added =
     append_first block start bytes new at chunks so_far.before so_far.after found so_far.split so_far.stands so_far.are
-    (finds volid number so_far.before so_far.after (splits block start bytes volid number at chunks held so_far)) added
+    (finds volid number units so_far.before so_far.after (splits block start bytes volid number units at chunks held so_far)) added
 
 append_last : (block start bytes : List ℕ) (at : ℕ) (chunks before after : List ChunkText) → chunks ≡ before ++ after → bytes ≡ start ++ joined before
     → FindsFirst block at after None → bytes ≡ start ++ joined chunks
@@ -61,39 +62,39 @@ append_last block start bytes at chunks before [] split are finds =
     are ∙ ap (λ (all : List ChunkText). start ++ joined all) (sym (split ∙ append-nil before))
 append_last block start bytes at chunks before (chunk ∷ after) split are finds = absurd finds
 
-pub append_ends : (block start bytes : List ℕ) (volid number at : ℕ) (chunks : List ChunkText) → HoldsChunks block volid number chunks
+pub append_ends : (block start bytes : List ℕ) (volid number units at : ℕ) (chunks : List ChunkText) → HoldsChunks block volid number units chunks
     → HasAppended start bytes at chunks
-    → ((v n : ℕ) (before after : List ChunkText) → SplitsAt block v n at before after → FindsFirst block at after None) → bytes ≡ start ++ joined chunks
-append_ends block start bytes volid number at chunks held so_far finds =
+    → ((v n u : ℕ) (before after : List ChunkText) → SplitsAt block v n u at before after → FindsFirst block at after None) → bytes ≡ start ++ joined chunks
+append_ends block start bytes volid number units at chunks held so_far finds =
     append_last block start bytes at chunks so_far.before so_far.after so_far.split so_far.are
-    (finds volid number so_far.before so_far.after (splits block start bytes volid number at chunks held so_far))
+    (finds volid number units so_far.before so_far.after (splits block start bytes volid number units at chunks held so_far))
 
 -- where a chunk that is found stands
-pub record IsInside (at : ℕ) (found : Chunk) : Type 0 where
+pub record IsInside (block : List ℕ) (at : ℕ) (found : Chunk) : Type 0 where
   pub goes_on : at < found.next
-  pub most : found.next ≤ 4040
+  pub most : 56 + found.next ≤ length block
+  pub small : length block ≤ 65536
   pub from : 80 ≤ found.start
   pub to : found.start + found.length ≡ found.next + 56
 
-inside_first : (block : List ℕ) (volid number at : ℕ) (before after : List ChunkText) (found : Chunk) → SplitsAt block volid number at before after
-    → FindsFirst block at after (Some found) → IsInside at found
-inside_first block volid number at before [] found split finds = absurd (cc finds)
-inside_first block volid number at before (chunk ∷ after) found split finds =
-    let long : length (chunks_text (before ++ chunk ∷ after)) ≡ length (chunks_text before) + (24 + length chunk.bytes + length (chunks_text after)) =
-    ap length (flat_map-append chunk_text before (chunk ∷ after)) ∙ length-append (chunks_text before) (chunks_text (chunk ∷ after))
-    ∙ omega (arith, length-append (chunk_text chunk) (chunks_text after), length-chunk_text chunk) in
+inside_first : (block : List ℕ) (volid number units at : ℕ) (before after : List ChunkText) (found : Chunk) → SplitsAt block volid number units at before after
+    → FindsFirst block at after (Some found) → IsInside block at found
+inside_first block volid number units at before [] found split finds = absurd (cc finds)
+inside_first block volid number units at before (chunk ∷ after) found split finds =
+    let here = at_place block volid number units at before (chunk ∷ after) split in
+    let room = (reads_at block at chunk after here).room in
     record {
       goes_on = omega (arith, finds.next);
-      most = omega (arith, finds.next, split.stands, long, split.holds.allowed.fit);
+      most = omega (arith, finds.next, room);
+      small = here.small;
       from = omega (arith, finds.start);
       to = omega (arith, finds.next, finds.start, finds.size);
     }
 
 pub inside : (block : List ℕ) (at : ℕ) (found : Chunk) → IsChunkPlace block at
-    → ((v n : ℕ) (before after : List ChunkText) → SplitsAt block v n at before after → FindsFirst block at after (Some found)) → IsInside at found
-inside block at found place finds =
-    inside_first block place.0 place.1.0 at place.1.1.0 place.1.1.1.0 found place.1.1.1.1
-    (finds place.0 place.1.0 place.1.1.0 place.1.1.1.0 place.1.1.1.1)
+    → ((v n u : ℕ) (before after : List ChunkText) → SplitsAt block v n u at before after → FindsFirst block at after (Some found)) → IsInside block at found
+inside block at found (volid, (number, (units, (before, (after, split))))) finds =
+    inside_first block volid number units at before after found split (finds volid number units before after split)
 
 -- ---- what was there stays
 

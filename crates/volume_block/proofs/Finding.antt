@@ -10,8 +10,9 @@ use Rattle.volume_block.specs.Why.{used_in}
 use Rattle.volume_block.specs.declared.block.Block.TheVariants as kinds
 use Rattle.volume_block.specs.declared.block.Chunk.{Chunk}
 use Rattle.volume_block.proofs.Heads.{Reads, reads_chunk}
-use Rattle.volume_block.proofs.Lengths.{length-held, length-chunks_text}
-use Rattle.volume_block.proofs.Spelled.{spells_block}
+use Rattle.volume_block.proofs.Lengths.{length-chunks_text}
+use Rattle.volume_block.proofs.Spelled.{spells_data}
+use Rattle.volume_block.proofs.Forms.{units_range}
 
 each_after : (before after : List ChunkText) → All IsChunk (before ++ after) → All IsChunk after
 each_after [] after each = each
@@ -19,22 +20,22 @@ each_after (chunk ∷ before) after each = each_after before after (All-tail IsC
 
 -- what stands at the place
 pub record AtPlace (bytes : List ℕ) (place : ℕ) (after : List ChunkText) : Type 0 where
-  pub whole : length bytes ≡ 4096
+  pub small : length bytes ≤ 65536
   pub used : used_in bytes ≡ place + length (chunks_text after)
-  pub fits : used_in bytes ≤ 4040
+  pub fits : 56 + used_in bytes ≤ length bytes
   pub each : All IsChunk after
   pub tail : List ℕ
   pub text : drop (56 + place) bytes ≡ chunks_text after ++ tail
 
-pub at_place : (bytes : List ℕ) (volid number place : ℕ) (before after : List ChunkText) → SplitsAt bytes volid number place before after → AtPlace bytes place after
-at_place bytes volid number place before after split =
+pub at_place : (bytes : List ℕ) (volid number units place : ℕ) (before after : List ChunkText) → SplitsAt bytes volid number units place before after → AtPlace bytes place after
+at_place bytes volid number units place before after split =
     let chunks = before ++ after in
     let held = split.holds in
-    let spells = spells_block bytes 0x44 volid number (chunks_text chunks) held.allowed.fit held.of_volume.1 held.placed.1 held.text in
+    let spells = spells_data bytes volid number units chunks held in
     let joined : chunks_text chunks ≡ chunks_text before ++ chunks_text after = flat_map-append chunk_text before after in
     let zeros = drop (used_in bytes) (drop 56 bytes) in
     record {
-      whole = length-held bytes volid number chunks held;
+      small = omega (arith, spells.whole, (units_range units held.of_units).1);
       used = spells.used_read ∙ ap length joined ∙ omega (arith, length-append (chunks_text before) (chunks_text after), split.stands);
       fits = spells.padded.0;
       each = each_after before after held.allowed.each;
@@ -54,14 +55,14 @@ pub record ReadsAt (bytes : List ℕ) (place : ℕ) (chunk : ChunkText) : Type 0
   pub offset : offset_in (drop (56 + place) bytes) ≡ chunk.offset
   pub count : count_in (drop (56 + place) bytes) ≡ length chunk.bytes
   pub text : take (length chunk.bytes) (drop (place + 80) bytes) ≡ chunk.bytes
-  pub room : place + 24 + length chunk.bytes ≤ 4040
+  pub room : 56 + (place + 24 + length chunk.bytes) ≤ length bytes
 
 pub reads_at : (bytes : List ℕ) (place : ℕ) (chunk : ChunkText) (chunks : List ChunkText) → AtPlace bytes place (chunk ∷ chunks) → ReadsAt bytes place chunk
 reads_at bytes place chunk chunks here =
     let tail = chunks_text chunks ++ here.tail in
-    let room : place + 24 + length chunk.bytes ≤ 4040 = omega (arith, here.used, here.fits, length-chunks_text chunk chunks) in
+    let room : 56 + (place + 24 + length chunk.bytes) ≤ length bytes = omega (arith, here.used, here.fits, length-chunks_text chunk chunks) in
     let spelled : drop (56 + place) bytes ≡ chunk_text chunk ++ tail = here.text ∙ append_assoc (chunk_text chunk) (chunks_text chunks) here.tail in
-    let made = subst (λ (t : List ℕ). Reads t chunk tail) (sym spelled) (reads_chunk chunk tail (All-head IsChunk chunk chunks here.each) (omega arith)) in
+    let made = subst (λ (t : List ℕ). Reads t chunk tail) (sym spelled) (reads_chunk chunk tail (All-head IsChunk chunk chunks here.each) (omega (arith, here.small))) in
     let same : 56 + place + 24 ≡ place + 80 = omega arith in
     record {
       ssid = made.ssid;
@@ -74,32 +75,40 @@ reads_at bytes place chunk chunks here =
 
 -- there is room for the chunk where the place isn't behind the last
 pub record HasRoom (bytes : List ℕ) (place : ℕ) : Type 0 where
-  pub whole : length bytes ≡ 4096
-  pub room : place + 24 + count_in (drop (56 + place) bytes) ≤ 4040
+  pub small : length bytes ≤ 65536
+  pub room : 56 + (place + 24 + count_in (drop (56 + place) bytes)) ≤ length bytes
 
 room_for : (bytes : List ℕ) (place : ℕ) (after : List ChunkText) → AtPlace bytes place after → place ≢ used_in bytes → HasRoom bytes place
 room_for bytes place [] here more = absurd (more (omega (arith, here.used)))
 room_for bytes place (chunk ∷ chunks) here more =
     let made = reads_at bytes place chunk chunks here in
-    record { whole = here.whole; room = omega (arith, made.room, made.count) }
+    record { small = here.small; room = omega (arith, made.room, made.count) }
 
 pub has_room : (bytes : List ℕ) (place : ℕ) → IsChunkPlace bytes place → place ≢ used_in bytes → HasRoom bytes place
-has_room bytes place is more = room_for bytes place is.1.1.1.0 (at_place bytes is.0 is.1.0 place is.1.1.0 is.1.1.1.0 is.1.1.1.1) more
+has_room bytes place (volid, (number, (units, (before, (after, split))))) more =
+    room_for bytes place after (at_place bytes volid number units place before after split) more
 
-pub has_whole : (bytes : List ℕ) (place : ℕ) → IsChunkPlace bytes place → length bytes ≡ 4096
-has_whole bytes place is = (at_place bytes is.0 is.1.0 place is.1.1.0 is.1.1.1.0 is.1.1.1.1).whole
+-- the size of a block with a chunk's place
+pub record HasSize (bytes : List ℕ) : Type 0 where
+  pub least : 56 ≤ length bytes
+  pub most : length bytes ≤ 65536
+
+pub has_size : (bytes : List ℕ) (place : ℕ) → IsChunkPlace bytes place → HasSize bytes
+has_size bytes place (volid, (number, (units, (before, (after, split))))) =
+    let here = at_place bytes volid number units place before after split in
+    record { least = omega (arith, here.fits); most = here.small }
 
 -- a valid data block begins with a place
-pub first_place : (bytes : List ℕ) (volid number used : ℕ) → ValidBlock bytes volid number (kinds.Data used) → IsChunkPlace bytes 0
-first_place bytes volid number used valid = (volid, (number, ([], (valid.0, record { holds = valid.1; stands = refl }))))
+pub first_place : (bytes : List ℕ) (volid number used units : ℕ) → ValidBlock bytes volid number (kinds.Data used units) → IsChunkPlace bytes 0
+first_place bytes volid number used units valid = (volid, (number, (units, ([], (valid.0, record { holds = valid.1; stands = refl })))))
 
 -- behind a chunk there is a place too
-pub next_splits : (bytes : List ℕ) (volid number place next : ℕ) (before : List ChunkText) (chunk : ChunkText) (chunks : List ChunkText)
-    → SplitsAt bytes volid number place before (chunk ∷ chunks) → next ≡ place + 24 + length chunk.bytes
-    → SplitsAt bytes volid number next (before ++ (chunk ∷ [])) chunks
-next_splits bytes volid number place next before chunk chunks split is =
+pub next_splits : (bytes : List ℕ) (volid number units place next : ℕ) (before : List ChunkText) (chunk : ChunkText) (chunks : List ChunkText)
+    → SplitsAt bytes volid number units place before (chunk ∷ chunks) → next ≡ place + 24 + length chunk.bytes
+    → SplitsAt bytes volid number units next (before ++ (chunk ∷ [])) chunks
+next_splits bytes volid number units place next before chunk chunks split is =
     record {
-      holds = subst (HoldsChunks bytes volid number) (sym (append_assoc before (chunk ∷ []) chunks)) split.holds;
+      holds = subst (HoldsChunks bytes volid number units) (sym (append_assoc before (chunk ∷ []) chunks)) split.holds;
       stands = is ∙ omega (
         arith,
         split.stands,
@@ -109,11 +118,11 @@ next_splits bytes volid number place next before chunk chunks split is =
       );
     }
 
-pub finds_none : (bytes : List ℕ) (volid number place : ℕ) (before after : List ChunkText) → place ≡ used_in bytes
-    → SplitsAt bytes volid number place before after → FindsFirst bytes place after None
-finds_none bytes volid number place before [] ended split = refl
-finds_none bytes volid number place before (chunk ∷ chunks) ended split =
-    let here = at_place bytes volid number place before (chunk ∷ chunks) split in
+pub finds_none : (bytes : List ℕ) (volid number units place : ℕ) (before after : List ChunkText) → place ≡ used_in bytes
+    → SplitsAt bytes volid number units place before after → FindsFirst bytes place after None
+finds_none bytes volid number units place before [] ended split = refl
+finds_none bytes volid number units place before (chunk ∷ chunks) ended split =
+    let here = at_place bytes volid number units place before (chunk ∷ chunks) split in
     absurd (omega (arith, here.used, length-chunks_text chunk chunks))
 
 -- what is found is what was read
@@ -125,13 +134,13 @@ pub record IsReadAt (bytes : List ℕ) (place : ℕ) (found : Chunk) : Type 0 wh
   pub start : found.start ≡ place + 80
   pub next : found.next ≡ place + 24 + found.length
 
-pub finds_first : (bytes : List ℕ) (volid number place : ℕ) (before after : List ChunkText) (found : Chunk) → place ≢ used_in bytes
-    → IsReadAt bytes place found → SplitsAt bytes volid number place before after → FindsFirst bytes place after (Some found)
-finds_first bytes volid number place before [] found more read split =
-    let here = at_place bytes volid number place before [] split in
+pub finds_first : (bytes : List ℕ) (volid number units place : ℕ) (before after : List ChunkText) (found : Chunk) → place ≢ used_in bytes
+    → IsReadAt bytes place found → SplitsAt bytes volid number units place before after → FindsFirst bytes place after (Some found)
+finds_first bytes volid number units place before [] found more read split =
+    let here = at_place bytes volid number units place before [] split in
     absurd (more (omega (arith, here.used)))
-finds_first bytes volid number place before (chunk ∷ chunks) found more read split =
-    let made = reads_at bytes place chunk chunks (at_place bytes volid number place before (chunk ∷ chunks) split) in
+finds_first bytes volid number units place before (chunk ∷ chunks) found more read split =
+    let made = reads_at bytes place chunk chunks (at_place bytes volid number units place before (chunk ∷ chunks) split) in
     let size : found.length ≡ length chunk.bytes = read.count ∙ made.count in
     record {
       ssid = read.ssid ∙ made.ssid;
@@ -143,19 +152,19 @@ finds_first bytes volid number place before (chunk ∷ chunks) found more read s
       text = ap (λ (n : ℕ). take n (drop found.start bytes)) size ∙ ap (λ (n : ℕ). take (length chunk.bytes) (drop n bytes)) read.start ∙ made.text;
     }
 
-next_place_of : (bytes : List ℕ) (volid number place : ℕ) (before after : List ChunkText) (found : Chunk) → place ≢ used_in bytes
-    → IsReadAt bytes place found → SplitsAt bytes volid number place before after → IsChunkPlace bytes found.next
-next_place_of bytes volid number place before [] found more read split =
-    let here = at_place bytes volid number place before [] split in
+next_place_of : (bytes : List ℕ) (volid number units place : ℕ) (before after : List ChunkText) (found : Chunk) → place ≢ used_in bytes
+    → IsReadAt bytes place found → SplitsAt bytes volid number units place before after → IsChunkPlace bytes found.next
+next_place_of bytes volid number units place before [] found more read split =
+    let here = at_place bytes volid number units place before [] split in
     absurd (more (omega (arith, here.used)))
-next_place_of bytes volid number place before (chunk ∷ chunks) found more read split =
-    let made = reads_at bytes place chunk chunks (at_place bytes volid number place before (chunk ∷ chunks) split) in
+next_place_of bytes volid number units place before (chunk ∷ chunks) found more read split =
+    let made = reads_at bytes place chunk chunks (at_place bytes volid number units place before (chunk ∷ chunks) split) in
     let next = read.next ∙ ap (λ (n : ℕ). place + 24 + n) (read.count ∙ made.count) in
-    (volid, (number, (before ++ (chunk ∷ []), (chunks, next_splits bytes volid number place found.next before chunk chunks split next))))
+    (volid, (number, (units, (before ++ (chunk ∷ []), (chunks, next_splits bytes volid number units place found.next before chunk chunks split next)))))
 
 pub next_place : (bytes : List ℕ) (place : ℕ) (found : Chunk) → place ≢ used_in bytes → IsReadAt bytes place found → IsChunkPlace bytes place → IsChunkPlace bytes found.next
-next_place bytes place found more read is =
-    next_place_of bytes is.0 is.1.0 place is.1.1.0 is.1.1.1.0 found more read is.1.1.1.1
+next_place bytes place found more read (volid, (number, (units, (before, (after, split))))) =
+    next_place_of bytes volid number units place before after found more read split
 
 -- a chunk that is read from the rest of the bytes
 pub read_at : (bytes : List ℕ) (place : ℕ) (found : Chunk)

@@ -8,6 +8,9 @@ use Rattle.volume_block.specs.Chunks.{ChunkText, IsChunk, chunk_head, chunk_text
 use Rattle.volume_block.proofs.Lengths.{length-chunk_text}
 use Rattle.volume_block.proofs.Parts.{IsBytes, IsBytes-drop, bytes_of_4, bytes_of_8}
 
+pub reads_2 : (x : ℕ) (rest : List ℕ) → x < 2 ^ 16 → big_number 2 (big_bytes 2 x ++ rest) ≡ x
+reads_2 x rest lt = big_number-reads_back 2 x rest lt
+
 pub reads_4 : (x : ℕ) (rest : List ℕ) → x < 2 ^ 32 → big_number 4 (big_bytes 4 x ++ rest) ≡ x
 reads_4 x rest lt = big_number-reads_back 4 x rest lt
 
@@ -99,7 +102,7 @@ pub record AreAllowed (text : List ℕ) : Type 0 where
   pub some : 1 ≤ count_in text
   pub ends : offset_in text + count_in text ≤ 2 ^ 36
 
-pub allowed_at_front : (text : List ℕ) (chunk : ChunkText) (tail : List ℕ) → length text ≤ 4040 → IsChunk chunk → text ≡ chunk_text chunk ++ tail → AreAllowed text
+pub allowed_at_front : (text : List ℕ) (chunk : ChunkText) (tail : List ℕ) → length text ≤ 2 ^ 32 → IsChunk chunk → text ≡ chunk_text chunk ++ tail → AreAllowed text
 allowed_at_front text chunk tail fits allowed spelled =
     let long : 24 + length chunk.bytes ≤ length text = omega (arith, ap length spelled, length-append (chunk_text chunk) tail, length-chunk_text chunk) in
     let made = reads_chunk chunk tail allowed (omega arith) in

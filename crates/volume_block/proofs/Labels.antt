@@ -4,6 +4,7 @@ use Rattle.std.proofs.lemmas.List.{length-append, length-drop, length-replicate,
 use Rattle.std.proofs.Math.Seq.{take-add}
 use Rattle.byteorder.specs.Endian.{big_bytes, big_number}
 use Rattle.room_base.specs.Text.{IsName}
+use Rattle.volume_block.specs.Layout.{IsUnits}
 use Rattle.volume_block.specs.Valid.{IsVolid, IsLabel, HasRanges, label_payload}
 use Rattle.volume_block.specs.Why.{FitsPool, IsLabelIn}
 use Rattle.room_base.specs.declared.numbers.Volid.{Volid}
@@ -55,14 +56,15 @@ spelled_label payload label bytes long read =
     ∙ ap (λ (n : ℕ). fields ++ (n ∷ drop 17 payload)) (sym read.pool_length)
     ∙ ap (λ (t : List ℕ). fields ++ (label.pool_length ∷ t)) (sym (name_is payload label read))
 
-pub is_label_in : (payload : List ℕ) (label : Label) → IsBytes payload → 17 ≤ length payload → IsVolid label.volid.0
-    → IsReadLabel payload label → HasRanges label → IsLabelIn label.volid.0 payload label
-is_label_in payload label bytes long volid read ranges =
+pub is_label_in : (payload : List ℕ) (label : Label) → IsBytes payload → 17 ≤ length payload → IsUnits label.units → IsVolid label.volid.0
+    → IsReadLabel payload label → HasRanges label → IsLabelIn label.units label.volid.0 payload label
+is_label_in payload label bytes long units volid read ranges =
     let name = drop 17 payload in
     let zeros = replicate (64 - label.pool_length) 0 in (
       record {
         volid = volid;
         cart = ranges.0;
+        units = units;
         capacity = ranges.1;
         made = ranges.2;
         pool_length = (ranges.3, read.fits.1);
@@ -70,6 +72,7 @@ is_label_in payload label bytes long volid read ranges =
         pool = ranges.4;
         zeros = ap (drop label.pool_length) read.pool ∙ drop_at name zeros label.pool_length read.fits.0;
       },
+      refl,
       refl,
       spelled_label payload label bytes long read,
     )
@@ -93,30 +96,31 @@ spells_label label allowed =
       name = refl;
     }
 
-pub spelled_has_ranges : (volid : ℕ) (payload : List ℕ) (label other : Label) → IsReadLabel payload label → IsLabelIn volid payload other → HasRanges label
-spelled_has_ranges volid payload label other read is =
-    let spells = subst (λ (t : List ℕ). SpellsLabel t other) (sym is.2) (spells_label other is.0) in (
+pub spelled_has_ranges : (units volid : ℕ) (payload : List ℕ) (label other : Label) → IsReadLabel payload label → label.units ≡ units
+    → IsLabelIn units volid payload other → HasRanges label
+spelled_has_ranges units volid payload label other read told is =
+    let spells = subst (λ (t : List ℕ). SpellsLabel t other) (sym is.3) (spells_label other is.0) in (
       omega (arith, read.cart, spells.cart, is.0.cart.0, is.0.cart.1),
-      omega (arith, read.capacity, spells.capacity, is.0.capacity.0, is.0.capacity.1),
+      omega (arith, read.capacity, spells.capacity, is.0.capacity.0, is.0.capacity.1, told, is.1),
       omega (arith, read.made, spells.made, is.0.made),
       omega (arith, read.pool_length, spells.pool_length, is.0.pool_length.0),
       subst IsName (sym (name_is payload label read ∙ spells.name)) is.0.pool,
     )
 
 -- the label that is made of what is read
-abbrev pub made_of : Volid → ℕ → ℕ → ℕ → ℕ → List ℕ → Label
-made_of volid cart capacity made pool_length pool =
-    record { volid = volid; cart = record { 0 = cart }; capacity = capacity; made = record { 0 = made }; pool_length = pool_length; pool = pool }
+abbrev pub made_of : ℕ → Volid → ℕ → ℕ → ℕ → ℕ → List ℕ → Label
+made_of units volid cart capacity made pool_length pool =
+    record { volid = volid; cart = record { 0 = cart }; capacity = capacity; made = record { 0 = made }; pool_length = pool_length; pool = pool; units = units }
 
-pub read_label : (payload : List ℕ) (volid : Volid) (cart capacity made pool_length : ℕ) (pool : List ℕ)
+pub read_label : (units : ℕ) (payload : List ℕ) (volid : Volid) (cart capacity made pool_length : ℕ) (pool : List ℕ)
     → cart ≡ big_number 4 payload
     → capacity ≡ big_number 4 (take (length payload - 4) (drop 4 payload))
     → made ≡ big_number 8 (take (length payload - 8) (drop 8 payload))
     → pool_length ≡ slice_index payload 16
     → FitsPool pool_length (take (length payload - 17) (drop 17 payload))
     → pool ≡ take (length payload - 17) (drop 17 payload) ++ replicate (64 - pool_length) 0
-    → IsReadLabel payload (made_of volid cart capacity made pool_length pool)
-read_label payload volid cart capacity made pool_length pool cart-is capacity-is made-is pool_length-is fits pool-is = record {
+    → IsReadLabel payload (made_of units volid cart capacity made pool_length pool)
+read_label units payload volid cart capacity made pool_length pool cart-is capacity-is made-is pool_length-is fits pool-is = record {
   cart = cart-is;
   capacity = capacity-is ∙ ap (big_number 4) (take_rest payload 4);
   made = made-is ∙ ap (big_number 8) (take_rest payload 8);

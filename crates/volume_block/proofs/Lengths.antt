@@ -4,34 +4,35 @@ use Rattle.std.proofs.lemmas.List.{length-append, length-take, length-replicate}
 use Rattle.sha2.specs.Sha256.{sha256}
 use Rattle.sha2.proofs.Facts256.{length-sha256}
 use Rattle.volume_block.specs.Chunks.{ChunkText, chunk_head, chunk_text, chunks_text}
-use Rattle.volume_block.specs.Layout.{head_text, padded_payload, block_text, closed}
+use Rattle.volume_block.specs.Layout.{data_size, head_text, padded_payload, block_text, closed}
 use Rattle.volume_block.specs.Region.{closed_block, blocks_text, AreBlocks, IsSealed}
-use Rattle.volume_block.specs.Valid.{IsLabel, HoldsChunks, ValidBlock, label_fields, label_payload, label_text, mark_text, data_text}
+use Rattle.volume_block.specs.Valid.{IsLabel, HoldsChunks, ValidBlock, size_of, label_fields, label_payload, label_text, mark_text, data_text}
 use Rattle.volume_block.specs.declared.label.Label.{Label}
 use Rattle.volume_block.specs.declared.block.Block.{Block}
 use Rattle.volume_block.specs.declared.block.Block.TheVariants as kinds
 
 -- ---- a block
 
-pub length-head_text : (kind used volid number : ℕ) → length (head_text kind used volid number) ≡ 24
-length-head_text kind used volid number = refl
+pub length-head_text : (kind units used volid number : ℕ) → length (head_text kind units used volid number) ≡ 24
+length-head_text kind units used volid number = refl
 
-length-padded : (size : ℕ) (payload : List ℕ) → length payload ≤ size → length (payload ++ replicate (size - length payload) 0) ≡ size
+length-padded : (size : ℕ) (payload : List ℕ) → 56 + length payload ≤ size → length (padded_payload size payload) ≡ size - 56
 length-padded size payload fits =
-    length-append payload (replicate (size - length payload) 0)
-    ∙ omega (arith, length-replicate {A = ℕ} (size - length payload) 0)
+    length-append payload (replicate (size - 56 - length payload) 0)
+    ∙ omega (arith, length-replicate {A = ℕ} (size - 56 - length payload) 0)
 
-pub length-block_text : (kind volid number : ℕ) (payload : List ℕ) → length payload ≤ 4040 → length (block_text kind volid number payload) ≡ 4096
+pub length-block_text : (kind units size volid number : ℕ) (payload : List ℕ) → 56 + length payload ≤ size
+    → length (block_text kind units size volid number payload) ≡ size
 unfolding block_text
-length-block_text kind volid number payload fits =
-    let head = head_text kind (length payload) volid number in
-    let digest = sha256 (head ++ padded_payload payload) in
-    length-append (head ++ digest) (padded_payload payload)
-    ∙ omega (arith, length-append head digest, length-head_text kind (length payload) volid number, length-sha256 (head ++ padded_payload payload), length-padded 4040 payload fits)
+length-block_text kind units size volid number payload fits =
+    let head = head_text kind units (length payload) volid number in
+    let digest = sha256 (head ++ padded_payload size payload) in
+    length-append (head ++ digest) (padded_payload size payload)
+    ∙ omega (arith, length-append head digest, length-head_text kind units (length payload) volid number, length-sha256 (head ++ padded_payload size payload), length-padded size payload fits)
 
-pub kind-block_text : (kind volid number : ℕ) (payload : List ℕ) → slice_index (block_text kind volid number payload) 0 ≡ kind
+pub kind-block_text : (kind units size volid number : ℕ) (payload : List ℕ) → slice_index (block_text kind units size volid number payload) 0 ≡ kind
 unfolding block_text
-kind-block_text kind volid number payload = refl
+kind-block_text kind units size volid number payload = refl
 
 -- ---- a closed block
 
@@ -60,39 +61,42 @@ length-closed_block = length-replicate {A = ℕ} 4096 0
 
 pub length-label_text : (label : Label) → IsLabel label → length (label_text label) ≡ 4096
 length-label_text label allowed =
-    length-block_text 0x4C label.volid.0 0 (label_payload label)
+    length-block_text 0x4C label.units 4096 label.volid.0 0 (label_payload label)
     (omega (arith, length-append (label_fields label) (take label.pool_length label.pool), length-take label.pool_length label.pool, allowed.pool_length.1))
 
-pub length-mark_text : (volid number count : ℕ) → length (mark_text volid number count) ≡ 4096
-length-mark_text volid number count = length-block_text 0x46 volid number _ (omega arith)
+pub length-mark_text : (volid number count units : ℕ) → length (mark_text volid number count units) ≡ 4096
+length-mark_text volid number count units = length-block_text 0x46 units 4096 volid number _ (omega arith)
 
-pub length-data_text : (volid number : ℕ) (chunks : List ChunkText) → length (chunks_text chunks) ≤ 4040 → length (data_text volid number chunks) ≡ 4096
-length-data_text volid number chunks fits = length-block_text 0x44 volid number (chunks_text chunks) fits
+pub length-data_text : (volid number units : ℕ) (chunks : List ChunkText) → 56 + length (chunks_text chunks) ≤ data_size units
+    → length (data_text volid number units chunks) ≡ data_size units
+length-data_text volid number units chunks fits = length-block_text 0x44 units (data_size units) volid number (chunks_text chunks) fits
 
-pub length-held : (bytes : List ℕ) (volid number : ℕ) (chunks : List ChunkText) → HoldsChunks bytes volid number chunks → length bytes ≡ 4096
-length-held bytes volid number chunks held = ap length held.text ∙ length-data_text volid number chunks held.allowed.fit
+pub length-held : (bytes : List ℕ) (volid number units : ℕ) (chunks : List ChunkText) → HoldsChunks bytes volid number units chunks
+    → length bytes ≡ data_size units
+length-held bytes volid number units chunks held = ap length held.text ∙ length-data_text volid number units chunks held.allowed.fit
 
-pub length-valid : (bytes : List ℕ) (volid number : ℕ) (block : Block) → ValidBlock bytes volid number block → length bytes ≡ 4096
+pub length-valid : (bytes : List ℕ) (volid number : ℕ) (block : Block) → ValidBlock bytes volid number block → length bytes ≡ size_of block
 length-valid bytes volid number (kinds.Label label) valid = ap length valid.3 ∙ length-label_text label valid.0
-length-valid bytes volid number (kinds.Mark count) valid = ap length valid.3 ∙ length-mark_text volid number count
-length-valid bytes volid number (kinds.Data used) valid = length-held bytes volid number valid.0 valid.1
+length-valid bytes volid number (kinds.Mark count units) valid = ap length valid.4 ∙ length-mark_text volid number count units
+length-valid bytes volid number (kinds.Data used units) valid = length-held bytes volid number units valid.0 valid.1
 
 -- ---- a region
 
-pub length-blocks_text : (volid first : ℕ) (blocks : List (List ChunkText)) → AreBlocks blocks → length (blocks_text volid first blocks) ≡ 4096 * length blocks
-length-blocks_text volid first [] allowed = refl
-length-blocks_text volid first (chunks ∷ blocks) allowed =
-    length-append (data_text volid first chunks) (blocks_text volid (first + 1) blocks)
-    ∙ omega (arith, length-data_text volid first chunks allowed.0.fit, length-blocks_text volid (first + 1) blocks allowed.1)
+pub length-blocks_text : (volid first units : ℕ) (blocks : List (List ChunkText)) → AreBlocks units blocks
+    → length (blocks_text volid first units blocks) ≡ data_size units * length blocks
+length-blocks_text volid first units [] allowed = omega arith
+length-blocks_text volid first units (chunks ∷ blocks) allowed =
+    length-append (data_text volid first units chunks) (blocks_text volid (first + units) units blocks)
+    ∙ omega (arith, length-data_text volid first units chunks allowed.0.fit, length-blocks_text volid (first + units) units blocks allowed.1)
 
-pub length-sealed : (volid mark : ℕ) (blocks : List (List ChunkText)) (region : List ℕ) → IsSealed volid mark blocks region
-    → length region ≡ 4096 * (length blocks + 2)
-length-sealed volid mark blocks region sealed =
-    let front = closed (mark_text volid mark (length blocks)) in
-    let files = blocks_text volid (mark + 1) blocks in
+pub length-sealed : (volid mark units : ℕ) (blocks : List (List ChunkText)) (region : List ℕ) → IsSealed volid mark units blocks region
+    → length region ≡ 8192 + data_size units * length blocks
+length-sealed volid mark units blocks region sealed =
+    let front = closed (mark_text volid mark (length blocks) units) in
+    let files = blocks_text volid (mark + 1) units blocks in
     ap length sealed.text
     ∙ length-append (front ++ files) closed_block
-    ∙ omega (arith, length-append front files, length-closed (mark_text volid mark (length blocks)), length-mark_text volid mark (length blocks), length-blocks_text volid (mark + 1) blocks sealed.allowed, length-closed_block)
+    ∙ omega (arith, length-append front files, length-closed (mark_text volid mark (length blocks) units), length-mark_text volid mark (length blocks) units, length-blocks_text volid (mark + 1) units blocks sealed.allowed, length-closed_block)
 
 -- ---- chunks
 

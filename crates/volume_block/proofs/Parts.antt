@@ -2,12 +2,11 @@
 use Rattle.std.proofs.Common.{◌≡◌, ℕ, ◌+◌, ◌-◌, ◌<◌, ◌≤◌, List, [], ◌∷◌, ◌++◌, length, take, drop, replicate, slice_index, refl, sym, ap, ◌∙◌, arith, inl, inr}
 use Rattle.std.proofs.lemmas.Bool.{cases_lt}
 use Rattle.std.proofs.lemmas.List.{get_or-take, get_or-drop, get_or_past, length-take, length-take-le, length-drop, take-append-drop, drop-drop}
-use Rattle.std.proofs.lemmas.Nat.{be_bytes_4, be_bytes_8}
+use Rattle.std.proofs.lemmas.Nat.{be_bytes_2, be_bytes_4, be_bytes_8}
 use Rattle.std.proofs.Math.Seq.{take-add}
 use Rattle.byteorder.specs.Endian.{big_bytes, big_number}
-use Rattle.volume_block.specs.Layout.{head_text, with_digest, block_text}
-use Rattle.volume_block.specs.Why.{kind_in, used_in, volid_in, number_in, payload_in, IsRight}
-use Rattle.volume_block.specs.declared.block.Reason.TheVariants as reasons
+use Rattle.volume_block.specs.Layout.{form_of, units_told, head_text, with_digest, block_text}
+use Rattle.volume_block.specs.Why.{kind_in, units_in, used_in, volid_in, number_in, payload_in, HasForm, IsPadded, HasDigest}
 use Rattle.volume_block.proofs.Whole.{block_is}
 
 abbrev pub IsBytes : List ℕ → Type 0
@@ -24,6 +23,11 @@ IsBytes-take n bytes h i =
     ]
 
 -- ---- numbers
+
+pub bytes_of_2 : (bytes : List ℕ) → 2 ≤ length bytes → IsBytes bytes → big_bytes 2 (big_number 2 bytes) ≡ take 2 bytes
+bytes_of_2 bytes long fits =
+    be_bytes_2 (take 2 bytes) (big_number 2 bytes) (length-take-le 2 bytes long) (IsBytes-take 2 bytes fits)
+    (omega (arith, get_or-take 2 bytes 0 0 (omega arith), get_or-take 2 bytes 1 0 (omega arith)))
 
 pub bytes_of_4 : (bytes : List ℕ) → 4 ≤ length bytes → IsBytes bytes → big_bytes 4 (big_number 4 bytes) ≡ take 4 bytes
 bytes_of_4 bytes long fits =
@@ -47,33 +51,37 @@ bytes_of_8 bytes long fits =
 
 -- ---- the head
 
-first_four : (bytes : List ℕ) → 4 ≤ length bytes → slice_index bytes 1 ≡ 1 → slice_index bytes 2 ≡ 0 → slice_index bytes 3 ≡ 0
-    → take 4 bytes ≡ slice_index bytes 0 ∷ 1 ∷ 0 ∷ 0 ∷ []
-first_four [] long form third fourth = absurd (omega arith)
-first_four (a ∷ []) long form third fourth = absurd (omega arith)
-first_four (a ∷ b ∷ []) long form third fourth = absurd (omega arith)
-first_four (a ∷ b ∷ c ∷ []) long form third fourth = absurd (omega arith)
-first_four (a ∷ b ∷ c ∷ d ∷ rest) long form third fourth = rw (form, third, fourth) refl
+first_two : (bytes : List ℕ) → 2 ≤ length bytes → take 2 bytes ≡ slice_index bytes 0 ∷ slice_index bytes 1 ∷ []
+first_two [] long = absurd (omega arith)
+first_two (a ∷ []) long = absurd (omega arith)
+first_two (a ∷ b ∷ rest) long = refl
 
 -- the first 24 bytes, by the places of the fields
-in_fields : (bytes : List ℕ) → take 24 bytes ≡ take 4 bytes ++ take 4 (drop 4 bytes) ++ take 8 (drop 8 bytes) ++ take 8 (drop 16 bytes)
+in_fields : (bytes : List ℕ)
+    → take 24 bytes ≡ take 2 bytes ++ take 2 (drop 2 bytes) ++ take 4 (drop 4 bytes) ++ take 8 (drop 8 bytes) ++ take 8 (drop 16 bytes)
 in_fields bytes =
     take-add 16 8 bytes
     ∙ ap (λ (t : List ℕ). t ++ take 8 (drop 16 bytes))
-    (take-add 8 8 bytes ∙ ap (λ (t : List ℕ). t ++ take 8 (drop 8 bytes)) (take-add 4 4 bytes))
+    (take-add 8 8 bytes ∙ ap (λ (t : List ℕ). t ++ take 8 (drop 8 bytes))
+    (take-add 4 4 bytes ∙ ap (λ (t : List ℕ). t ++ take 4 (drop 4 bytes)) (take-add 2 2 bytes)))
 
-pub head_is : (bytes : List ℕ) → 24 ≤ length bytes → IsBytes bytes → slice_index bytes 1 ≡ 1 → slice_index bytes 2 ≡ 0 → slice_index bytes 3 ≡ 0
-    → take 24 bytes ≡ head_text (kind_in bytes) (used_in bytes) (volid_in bytes) (number_in bytes)
-head_is bytes long fits form third fourth =
-    let first = first_four bytes (omega arith) form third fourth in
+pub head_is : (bytes : List ℕ) → 24 ≤ length bytes → IsBytes bytes → HasForm bytes
+    → take 24 bytes ≡ head_text (kind_in bytes) (units_in bytes) (used_in bytes) (volid_in bytes) (number_in bytes)
+head_is bytes long fits form =
+    let first : take 2 bytes ≡ kind_in bytes ∷ form_of (units_in bytes) ∷ [] =
+    first_two bytes (omega arith) ∙ ap (λ (f : ℕ). kind_in bytes ∷ f ∷ []) form.1 in
+    let told : take 2 (drop 2 bytes) ≡ big_bytes 2 (units_told (units_in bytes)) =
+    sym (bytes_of_2 (drop 2 bytes) (omega (arith, length-drop 2 bytes)) (IsBytes-drop 2 bytes fits)) ∙ ap (big_bytes 2) form.2 in
     let used = bytes_of_4 (drop 4 bytes) (omega (arith, length-drop 4 bytes)) (IsBytes-drop 4 bytes fits) in
     let volid = bytes_of_8 (drop 8 bytes) (omega (arith, length-drop 8 bytes)) (IsBytes-drop 8 bytes fits) in
     let number = bytes_of_8 (drop 16 bytes) (omega (arith, length-drop 16 bytes)) (IsBytes-drop 16 bytes fits) in
+    let front = (kind_in bytes ∷ form_of (units_in bytes) ∷ []) ++ big_bytes 2 (units_told (units_in bytes)) in
     in_fields bytes
-    ∙ ap (λ (t : List ℕ). t ++ take 4 (drop 4 bytes) ++ take 8 (drop 8 bytes) ++ take 8 (drop 16 bytes)) first
-    ∙ ap (λ (t : List ℕ). (kind_in bytes ∷ 1 ∷ 0 ∷ 0 ∷ []) ++ t ++ take 8 (drop 8 bytes) ++ take 8 (drop 16 bytes)) (sym used)
-    ∙ ap (λ (t : List ℕ). (kind_in bytes ∷ 1 ∷ 0 ∷ 0 ∷ []) ++ big_bytes 4 (used_in bytes) ++ t ++ take 8 (drop 16 bytes)) (sym volid)
-    ∙ ap (λ (t : List ℕ). (kind_in bytes ∷ 1 ∷ 0 ∷ 0 ∷ []) ++ big_bytes 4 (used_in bytes) ++ big_bytes 8 (volid_in bytes) ++ t) (sym number)
+    ∙ ap (λ (t : List ℕ). t ++ take 2 (drop 2 bytes) ++ take 4 (drop 4 bytes) ++ take 8 (drop 8 bytes) ++ take 8 (drop 16 bytes)) first
+    ∙ ap (λ (t : List ℕ). (kind_in bytes ∷ form_of (units_in bytes) ∷ []) ++ t ++ take 4 (drop 4 bytes) ++ take 8 (drop 8 bytes) ++ take 8 (drop 16 bytes)) told
+    ∙ ap (λ (t : List ℕ). front ++ t ++ take 8 (drop 8 bytes) ++ take 8 (drop 16 bytes)) (sym used)
+    ∙ ap (λ (t : List ℕ). front ++ big_bytes 4 (used_in bytes) ++ t ++ take 8 (drop 16 bytes)) (sym volid)
+    ∙ ap (λ (t : List ℕ). front ++ big_bytes 4 (used_in bytes) ++ big_bytes 8 (volid_in bytes) ++ t) (sym number)
 
 -- ---- the whole
 
@@ -87,15 +95,14 @@ padding_is skip used size bytes zeros =
     sym (take-append-drop used (drop skip bytes))
     ∙ ap (λ (t : List ℕ). take used (drop skip bytes) ++ t) (drop-drop used skip bytes ∙ zeros)
 
-pub spelled : (bytes : List ℕ) (volid number : ℕ) → length bytes ≡ 4096 → IsBytes bytes
-    → IsRight reasons.Form bytes volid number → IsRight reasons.Length bytes volid number → IsRight reasons.Digest bytes volid number
-    → bytes ≡ block_text (kind_in bytes) (volid_in bytes) (number_in bytes) (payload_in bytes)
-spelled bytes volid number whole fits form padded digest =
-    let head = head_is bytes (omega arith) fits form.0 form.1 form.2 in
+pub spelled : (bytes : List ℕ) → IsBytes bytes → HasForm bytes → IsPadded bytes → HasDigest bytes
+    → bytes ≡ block_text (kind_in bytes) (units_in bytes) (length bytes) (volid_in bytes) (number_in bytes) (payload_in bytes)
+spelled bytes fits form padded digest =
+    let head = head_is bytes (omega (arith, padded.0)) fits form in
     let count : length (payload_in bytes) ≡ used_in bytes =
     length-take-le (used_in bytes) (drop 56 bytes) (omega (arith, length-drop 56 bytes, padded.0)) in
     in_parts bytes
     ∙ ap (λ (t : List ℕ). take 24 bytes ++ t ++ drop 56 bytes) digest
     ∙ ap (λ (t : List ℕ). with_digest t (drop 56 bytes)) head
-    ∙ block_is (kind_in bytes) (volid_in bytes) (number_in bytes) (used_in bytes) (payload_in bytes) (drop 56 bytes) count
-    (padding_is 56 (used_in bytes) 4040 bytes padded.1)
+    ∙ block_is (kind_in bytes) (units_in bytes) (length bytes) (volid_in bytes) (number_in bytes) (used_in bytes) (payload_in bytes) (drop 56 bytes) count
+    (padding_is 56 (used_in bytes) (length bytes - 56) bytes padded.1)

@@ -1,14 +1,15 @@
 -- A payload is taken apart into chunks, from its front on.
-use Rattle.std.proofs.Common.{◌≡◌, ◌≢◌, ℕ, ◌+◌, ◌≤◌, List, [], ◌∷◌, ◌++◌, length, drop, All, refl, sym, ap, ◌∙◌, append_assoc, arith}
+use Rattle.std.proofs.Common.{◌≡◌, ◌≢◌, ℕ, ◌+◌, ◌^◌, ◌≤◌, List, [], ◌∷◌, ◌++◌, length, drop, All, refl, sym, ap, ◌∙◌, append_assoc, arith}
 use Rattle.std.proofs.lemmas.List.{append-nil, length-append, flat_map_more, nil_from_length}
 use Rattle.std.proofs.lemmas.List.Elements.{All-nil, All-cons, All-append, All-head, All-tail}
 use Rattle.volume_block.specs.Chunks.{ChunkText, IsChunk, chunk_text, chunks_text, count_in, IsFirstChunk}
+use Rattle.volume_block.specs.Layout.{data_size}
 use Rattle.volume_block.specs.Why.{AreChunksIn}
 use Rattle.volume_block.proofs.Lengths.{length-chunk_text, length-chunks_text}
 use Rattle.volume_block.proofs.Heads.{reads_chunk}
 
 -- what is behind the first chunk
-pub behind_first : (text : List ℕ) (size : ℕ) (first other : ChunkText) (tail : List ℕ) → length text ≤ 4040
+pub behind_first : (text : List ℕ) (size : ℕ) (first other : ChunkText) (tail : List ℕ) → length text ≤ 2 ^ 32
     → IsFirstChunk text size first → IsChunk other → text ≡ chunk_text other ++ tail → drop size text ≡ tail
 behind_first text size first other tail fits is allowed spelled =
     let long : 24 + length other.bytes ≤ length text = omega (arith, ap length spelled, length-append (chunk_text other) tail, length-chunk_text other) in
@@ -25,13 +26,13 @@ pub record IsSplit (payload rest : List ℕ) : Type 0 where
 pub at_start : (payload : List ℕ) → IsSplit payload payload
 at_start payload = record { so_far = ([], All-nil IsChunk, refl); only = λ chunks each spelled. (chunks, each, spelled) }
 
-after_first : (rest : List ℕ) (size : ℕ) (first : ChunkText) (after : List ChunkText) → length rest ≤ 4040 → IsFirstChunk rest size first
+after_first : (rest : List ℕ) (size : ℕ) (first : ChunkText) (after : List ChunkText) → length rest ≤ 2 ^ 32 → IsFirstChunk rest size first
     → All IsChunk after → rest ≡ chunks_text after → (more : List ChunkText) × All IsChunk more × (drop size rest ≡ chunks_text more)
 after_first rest size first [] fits is each spelled = absurd (omega (arith, ap length spelled, is.sized, is.within))
 after_first rest size first (other ∷ more) fits is each spelled =
     (more, All-tail IsChunk other more each, behind_first rest size first other (chunks_text more) fits is (All-head IsChunk other more each) spelled)
 
-pub one_more : (payload rest : List ℕ) (size : ℕ) (first : ChunkText) → length rest ≤ 4040 → IsFirstChunk rest size first
+pub one_more : (payload rest : List ℕ) (size : ℕ) (first : ChunkText) → length rest ≤ 2 ^ 32 → IsFirstChunk rest size first
     → IsSplit payload rest → IsSplit payload (drop size rest)
 one_more payload rest size first fits is split =
     let front = split.so_far.0 in
@@ -55,8 +56,8 @@ no_first rest [] none some each spelled = omega (arith, ap length spelled)
 no_first rest (chunk ∷ more) none some each spelled = none chunk (chunks_text more) (All-head IsChunk chunk more each) spelled
 
 pub no_chunks : (payload rest : List ℕ) → ((chunk : ChunkText) (tail : List ℕ) → IsChunk chunk → rest ≢ chunk_text chunk ++ tail)
-    → 1 ≤ length rest → IsSplit payload rest → (chunks : List ChunkText) → AreChunksIn payload chunks → ⊥
-no_chunks payload rest none some split chunks are =
+    → 1 ≤ length rest → IsSplit payload rest → (units : ℕ) (chunks : List ChunkText) → AreChunksIn units payload chunks → ⊥
+no_chunks payload rest none some split units chunks are =
     let after = split.only chunks are.0.each are.1 in
     no_first rest after.0 none some after.1 after.2
 
@@ -64,12 +65,12 @@ some_text : (chunks : List ChunkText) → chunks ≢ [] → 1 ≤ length (chunks
 some_text [] some = absurd (some refl)
 some_text (chunk ∷ chunks) some = omega (arith, length-chunks_text chunk chunks)
 
-pub no_chunks_in_none : (payload : List ℕ) → length payload ≡ 0 → (chunks : List ChunkText) → AreChunksIn payload chunks → ⊥
-no_chunks_in_none payload none chunks are = omega (arith, some_text chunks are.0.some, ap length are.1)
+pub no_chunks_in_none : (payload : List ℕ) → length payload ≡ 0 → (units : ℕ) (chunks : List ChunkText) → AreChunksIn units payload chunks → ⊥
+no_chunks_in_none payload none units chunks are = omega (arith, some_text chunks are.0.some, ap length are.1)
 
-pub all_chunks : (payload rest : List ℕ) → length payload ≤ 4040 → 1 ≤ length payload → length rest ≡ 0 → IsSplit payload rest
-    → (chunks : List ChunkText) × AreChunksIn payload chunks
-all_chunks payload rest fits some ended split =
+pub all_chunks : (units : ℕ) (payload rest : List ℕ) → 56 + length payload ≤ data_size units → 1 ≤ length payload → length rest ≡ 0 → IsSplit payload rest
+    → (chunks : List ChunkText) × AreChunksIn units payload chunks
+all_chunks units payload rest fits some ended split =
     let front = split.so_far.0 in
     let spelled : payload ≡ chunks_text front =
     split.so_far.2 ∙ ap (λ (t : List ℕ). chunks_text front ++ t) (nil_from_length rest ended) ∙ append-nil (chunks_text front) in (

@@ -26,8 +26,8 @@ zeros_from answer from count bytes whole test =
 
 pub zeros_within : (answer : Bool) (used used-in skip size : ℕ) (bytes : List ℕ) → used ≡ used-in → used ≤ size → length bytes ≡ skip + size
     → (IsTrue answer ↔ All (λ byte. byte ≡ 0) (take (length bytes - (skip + used)) (drop (skip + used) bytes)))
-    → IsTrue answer ↔ ((used-in ≤ size) × (drop (skip + used-in) bytes ≡ replicate (size - used-in) 0))
+    → IsTrue answer ↔ ((skip + used-in ≤ length bytes) × (drop (skip + used-in) bytes ≡ replicate (size - used-in) 0))
 zeros_within answer used used-in skip size bytes same fits whole test =
     let known = zeros_from answer (skip + used) (size - used) bytes (omega arith) test in
-    let Known : ℕ → Type 0 = λ (n : ℕ). IsTrue answer ↔ ((n ≤ size) × (drop (skip + n) bytes ≡ replicate (size - n) 0)) in
-    subst Known same (λ yes. (fits, known.0 yes), λ right. known.1 right.1)
+    let Known : ℕ → Type 0 = λ (n : ℕ). IsTrue answer ↔ ((skip + n ≤ length bytes) × (drop (skip + n) bytes ≡ replicate (size - n) 0)) in
+    subst Known same (λ yes. (omega (arith, fits, whole), known.0 yes), λ right. known.1 right.1)

@@ -6,9 +6,9 @@ use Rattle.volume_block.specs.Valid.{HoldsChunks}
 use Rattle.volume_block.specs.declared.block.Chunk.{Chunk}
 
 -- a data block of these chunks, with so many bytes before the second list
-pub record SplitsAt (bytes : List ℕ) (volid number place : ℕ)
+pub record SplitsAt (bytes : List ℕ) (volid number units place : ℕ)
     (before after : List ChunkText) : Type 0 where
-  pub holds : HoldsChunks bytes volid number (before ++ after)
+  pub holds : HoldsChunks bytes volid number units (before ++ after)
   pub stands : place ≡ length (chunks_text before)
 
 -- a place in a valid data block where a chunk begins, or behind the last
@@ -16,8 +16,9 @@ abbrev pub IsChunkPlace : List ℕ → ℕ → Type 0
 IsChunkPlace bytes place =
     (volid : ℕ)
     × ((number : ℕ)
+    × ((units : ℕ)
     × ((before : List ChunkText)
-    × ((after : List ChunkText) × SplitsAt bytes volid number place before after)))
+    × ((after : List ChunkText) × SplitsAt bytes volid number units place before after))))
 
 -- what is found of a chunk that begins at this place
 pub record IsFound (bytes : List ℕ) (place : ℕ) (chunk : ChunkText) (found : Chunk) : Type 0 where

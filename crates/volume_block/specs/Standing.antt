@@ -1,5 +1,5 @@
 -- Chunks where they stand on a volume.
-use Rattle.std.specs.Prelude.{◌≡◌, ℕ, ◌+◌, List, ◌∷◌, ◌++◌, length, map}
+use Rattle.std.specs.Prelude.{◌≡◌, ℕ, ◌+◌, ◌*◌, List, ◌∷◌, ◌++◌, length, map}
 use Rattle.volume_block.specs.Chunks.{ChunkText, chunks_text}
 
 -- A chunk in a block of the file of a volume that has its mark at `mark`. Its bytes are in the
@@ -18,8 +18,9 @@ chunks_of run = map (λ (one : Standing). one.chunk) run
 abbrev pub start_behind : List ChunkText → ℕ
 start_behind before = 80 + length (chunks_text before)
 
--- The chunk is one of the file that a commit of these blocks at this mark place adds to a volume.
-pub record InBlocks (volid mark : ℕ) (blocks : List (List ChunkText)) (one : Standing) :
+-- The chunk is one of the file that a commit of these blocks at this mark place adds to a volume of
+-- so many units.
+pub record InBlocks (volid mark units : ℕ) (blocks : List (List ChunkText)) (one : Standing) :
     Type 0 where
   pub volume : one.volid ≡ volid
   pub at : one.mark ≡ mark
@@ -28,5 +29,5 @@ pub record InBlocks (volid mark : ℕ) (blocks : List (List ChunkText)) (one : S
   pub after : List ChunkText
   pub later : List (List ChunkText)
   pub parts : blocks ≡ earlier ++ (before ++ one.chunk ∷ after) ∷ later
-  pub block : one.block ≡ mark + 1 + length earlier
+  pub block : one.block ≡ mark + 1 + units * length earlier
   pub start : one.start ≡ start_behind before

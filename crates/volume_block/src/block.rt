@@ -1,11 +1,14 @@
 use crate::Label;
 use room_base::{CopyNo, Ssid};
 
-/// The bytes of a block.
+/// The bytes of a label, of a mark, and of each unit of a data block. Blocks are numbered by units.
 pub const BLOCK_SIZE: usize = 4096;
 
-/// The bytes of a block's payload, which stands behind its head of 56 bytes.
-pub const PAYLOAD_SIZE: usize = 4040;
+/// The most units that a data block has.
+pub const MAX_UNITS: u32 = 16;
+
+/// The bytes of the largest data block.
+pub const MAX_BLOCK_SIZE: usize = 65_536;
 
 /// The most data blocks behind one mark.
 pub const MAX_FILE_BLOCKS: u32 = 64;
@@ -14,10 +17,10 @@ pub const MAX_FILE_BLOCKS: u32 = 64;
 #[derive(Clone, Copy, Debug, PartialEq, Eq)]
 pub enum Block {
     Label(Label),
-    /// `count` data blocks follow.
-    Mark { count: u32 },
-    /// The first `used` bytes of the payload are chunks.
-    Data { used: u32 },
+    /// `count` data blocks of `units` units each follow.
+    Mark { count: u32, units: u32 },
+    /// The first `used` bytes of the payload are chunks. The block has `units` units.
+    Data { used: u32, units: u32 },
 }
 
 /// Why bytes are no valid block.

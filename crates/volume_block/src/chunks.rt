@@ -2,6 +2,7 @@
 
 ghost use Rattle.std.specs.Prelude.{◌≡◌, ◌≢◌, ◌≤◌, ◌+◌, ◌^◌, ◌++◌, ◌↔◌, ℕ, List, length, IfSome};
 ghost use Rattle.std.specs.Prelude.{IsTrue, MatchOption};
+ghost use Rattle.volume_block.specs.Layout.{data_size};
 ghost use Rattle.volume_block.specs.Chunks.{ChunkText, IsChunk, chunk_text, ssid_in, copy_in};
 ghost use Rattle.volume_block.specs.Chunks.{offset_in, count_in, IsFirstChunk};
 ghost use Rattle.volume_block.specs.Places.{SplitsAt, IsChunkPlace, FindsFirst};
@@ -18,10 +19,10 @@ const STREAM_LIMIT: u64 = 1 << 36;
 /// Finds the chunk of a valid data block that begins at this place: 0, or `next` of the chunk
 /// before. There is none behind the last chunk.
 pub fn next_chunk(bytes: &[u8], at: u32) -> Option<Chunk>
-    requires whole { length bytes.now ≡ 4096 }
-    requires place { IsChunkPlace bytes.now at }
-    ensures found { (volid number : ℕ) (before after : List ChunkText)
-        → SplitsAt bytes.now volid number at before after → FindsFirst bytes.now at after result }
+    requires { IsChunkPlace bytes.now at }
+    ensures found { (volid number units : ℕ) (before after : List ChunkText)
+        → SplitsAt bytes.now volid number units at before after
+        → FindsFirst bytes.now at after result }
     ensures again { IfSome result (λ found. IsChunkPlace bytes.now found.next) }
 {
     if at == used_length(bytes) {
@@ -76,7 +77,7 @@ fn is_allowed(head: &ChunkHead) -> bool
 
 // How many bytes the first chunk takes, where a chunk begins the text.
 fn first_chunk_size(text: &[u8]) -> Option<usize>
-    requires { length text.now ≤ 4040 }
+    requires { length text.now ≤ 2 ^ 32 }
     ensures { MatchOption result
         ((chunk : ChunkText) (tail : List ℕ) → IsChunk chunk → text.now ≢ chunk_text chunk ++ tail)
         (λ size. (chunk : ChunkText) × IsFirstChunk text.now size chunk) }
@@ -94,8 +95,9 @@ fn first_chunk_size(text: &[u8]) -> Option<usize>
 
 /// Whether the payload is chunks one behind the other, at least one.
 pub(crate) fn are_chunks(payload: &[u8]) -> bool
-    requires { length payload.now ≤ 4040 }
-    ensures { IsTrue result ↔ ((chunks : List ChunkText) × AreChunksIn payload.now chunks) }
+    requires { length payload.now ≤ 2 ^ 32 }
+    ensures { (units : ℕ) → 56 + length payload.now ≤ data_size units
+        → IsTrue result ↔ ((chunks : List ChunkText) × AreChunksIn units payload.now chunks) }
 {
     let mut rest = payload;
     while !rest.is_empty() {

@@ -1,26 +1,29 @@
 //! Reads blocks. None of these functions takes memory.
 
-ghost use Rattle.std.specs.Prelude.{◌≡◌, ◌≤◌, ◌↔◌, length, All, IsTrue, MatchOption, MatchResult};
-ghost use Rattle.volume_block.specs.Why.{IsKindAt, HasForm, IsPadded, HasDigest, volid_in};
-ghost use Rattle.volume_block.specs.Why.{number_in, payload_in, AreRightBelow, IsPayload};
-ghost use Rattle.volume_block.specs.Why.{SaysBlock, Why};
+ghost use Rattle.std.specs.Prelude.{◌≡◌, ◌≤◌, ◌+◌, ◌↔◌, length, All, IsTrue, MatchOption};
+ghost use Rattle.std.specs.Prelude.{MatchResult};
+ghost use Rattle.volume_block.specs.Layout.{IsUnits, data_size};
+ghost use Rattle.volume_block.specs.Why.{IsKindAt, HasForm, HasLength, IsPadded, HasDigest};
+ghost use Rattle.volume_block.specs.Why.{volid_in, number_in, used_in, payload_in, AreRightBelow};
+ghost use Rattle.volume_block.specs.Why.{IsPayload, SaysBlock, Why};
 ghost use Rattle.volume_block.specs.Valid.{ValidBlock};
 
-use crate::block::{BadBlock, Block, PAYLOAD_SIZE, Reason};
+use crate::block::{BadBlock, Block, Reason};
 use crate::chunks::are_chunks;
 use crate::label::Label;
 use crate::layout::{
-    DATA_KIND, FORM, FORM_PLACE, HEAD_SIZE, LABEL_KIND, MARK_KIND, NUMBER_PLACE, PAYLOAD_START,
-    VOLID_PLACE, used_length,
+    DATA_KIND, HEAD_SIZE, LABEL_KIND, MARK_KIND, NUMBER_PLACE, PAYLOAD_START, VOLID_PLACE,
+    used_length,
 };
 use crate::payload::{label_in, mark_count};
 use crate::sealing::digest_of;
+use crate::units::{block_size, has_form, units_in};
 use byteorder::{BigEndian, ByteOrder};
 use room_base::Volid;
 
 /// Reads the block with this number of this volume. Of several wrong parts the first is named.
 pub fn decode_block(bytes: &[u8], volid: Volid, number: u64) -> Result<Block, BadBlock>
-    requires { length bytes.now ≡ 4096 }
+    requires { 4096 ≤ length bytes.now }
     ensures decoded { MatchResult result (ValidBlock bytes.now volid.0 number)
         (λ bad. Why bytes.now volid.0 number bad.why) }
     ensures only { (block : Block) → ValidBlock bytes.now volid.0 number block → result ≡ Ok block }
@@ -28,7 +31,7 @@ pub fn decode_block(bytes: &[u8], volid: Volid, number: u64) -> Result<Block, Ba
     if let Some(why) = fault_before_payload(bytes, volid, number) {
         return Err(BadBlock { why });
     }
-    match block_in(bytes[0], volid, payload_of(bytes)) {
+    match block_in(bytes[0], units_in(bytes), volid, payload_of(bytes)) {
         Some(block) => Ok(block),
         None => Err(BadBlock {
             why: Reason::Payload,
@@ -49,7 +52,7 @@ pub fn decode_label(bytes: &[u8]) -> Result<Label, BadBlock>
     if let Some(why) = fault_before_payload(bytes, volid, 0) {
         return Err(BadBlock { why });
     }
-    match label_in(volid, payload_of(bytes)) {
+    match label_in(units_in(bytes), volid, payload_of(bytes)) {
         Some(label) => Ok(label),
         None => Err(BadBlock {
             why: Reason::Payload,
@@ -58,19 +61,22 @@ pub fn decode_label(bytes: &[u8]) -> Result<Label, BadBlock>
 }
 
 // The block that a payload says behind a head of this kind.
-fn block_in(kind: u8, volid: Volid, payload: &[u8]) -> Option<Block>
+fn block_in(kind: u8, units: u32, volid: Volid, payload: &[u8]) -> Option<Block>
+    requires units { IsUnits units }
     requires volume { 1 ≤ volid.0 }
-    requires fits { length payload.now ≤ 4040 }
-    ensures { MatchOption result (¬ IsPayload kind volid.0 payload.now)
-        (SaysBlock kind volid.0 payload.now) }
+    requires fits { (kind ≡ 0x44) → 56 + length payload.now ≤ data_size units }
+    ensures { MatchOption result (¬ IsPayload kind units volid.0 payload.now)
+        (SaysBlock kind units volid.0 payload.now) }
 {
     match kind {
-        LABEL_KIND => Some(Block::Label(label_in(volid, payload)?)),
+        LABEL_KIND => Some(Block::Label(label_in(units, volid, payload)?)),
         MARK_KIND => Some(Block::Mark {
             count: mark_count(payload)?,
+            units,
         }),
         DATA_KIND if are_chunks(payload) => Some(Block::Data {
             used: payload.len() as u32,
+            units,
         }),
         _ => None,
     }
@@ -78,8 +84,7 @@ fn block_in(kind: u8, volid: Volid, payload: &[u8]) -> Option<Block>
 
 // The used bytes of the payload.
 fn payload_of(bytes: &[u8]) -> &[u8]
-    requires whole { length bytes.now ≡ 4096 }
-    requires padded { IsPadded bytes.now }
+    requires { 56 + used_in bytes.now ≤ length bytes.now }
     ensures { result.now ≡ payload_in bytes.now }
 {
     let used = used_length(bytes) as usize;
@@ -96,19 +101,21 @@ fn is_kind_at(kind: u8, number: u64) -> bool
     }
 }
 
-fn has_form(bytes: &[u8]) -> bool
-    requires { 4 ≤ length bytes.now }
-    ensures { IsTrue result ↔ HasForm bytes.now }
+// Whether the block has the size of its kind and units, and zeros behind its payload.
+fn has_length(bytes: &[u8]) -> bool
+    requires whole { 4096 ≤ length bytes.now }
+    requires form { HasForm bytes.now }
+    ensures { IsTrue result ↔ HasLength bytes.now }
 {
-    bytes[FORM_PLACE] == FORM && bytes[FORM_PLACE + 1] == 0 && bytes[FORM_PLACE + 2] == 0
+    bytes.len() == block_size(bytes[0], units_in(bytes)) && is_padded(bytes)
 }
 
 fn is_padded(bytes: &[u8]) -> bool
-    requires { length bytes.now ≡ 4096 }
+    requires { 4096 ≤ length bytes.now }
     ensures { IsTrue result ↔ IsPadded bytes.now }
 {
     let used = used_length(bytes) as usize;
-    used <= PAYLOAD_SIZE && are_zeros(&bytes[PAYLOAD_START + used..])
+    used <= bytes.len() - PAYLOAD_START && are_zeros(&bytes[PAYLOAD_START + used..])
 }
 
 fn are_zeros(bytes: &[u8]) -> bool
@@ -141,7 +148,7 @@ fn has_number(bytes: &[u8], number: u64) -> bool
 
 // The first wrong part before the payload.
 fn fault_before_payload(bytes: &[u8], volid: Volid, number: u64) -> Option<Reason>
-    requires { length bytes.now ≡ 4096 }
+    requires { 4096 ≤ length bytes.now }
     ensures { MatchOption result (AreRightBelow 6 bytes.now volid.0 number)
         (Why bytes.now volid.0 number) }
 {
@@ -153,7 +160,7 @@ fn fault_before_payload(bytes: &[u8], volid: Volid, number: u64) -> Option<Reaso
         Some(Reason::Volid)
     } else if !has_number(bytes, number) {
         Some(Reason::Number)
-    } else if !is_padded(bytes) {
+    } else if !has_length(bytes) {
         Some(Reason::Length)
     } else if !has_digest(bytes) {
         Some(Reason::Digest)

@@ -12,12 +12,11 @@ use std::alloc::Global;
 /// Appends the bytes of the chunks of a valid data block, in their order. What was there stays.
 /// After an error some of the chunks may be appended.
 pub fn append_chunks(block: &[u8], bytes: &mut Vec<u8, Global>) -> Result<(), Memory>
-    requires whole { length block.now ≡ 4096 }
-    requires chunks { (volid : ℕ) ×
-        ((number : ℕ) × ((chunks : List ChunkText) × HoldsChunks block.now volid number chunks)) }
+    requires { (volid : ℕ) × ((number : ℕ) × ((units : ℕ) ×
+        ((chunks : List ChunkText) × HoldsChunks block.now volid number units chunks))) }
     ensures stays { take (length bytes.old.items) bytes.new.items ≡ bytes.old.items }
-    ensures appended { (volid number : ℕ) (chunks : List ChunkText)
-        → HoldsChunks block.now volid number chunks
+    ensures appended { (volid number units : ℕ) (chunks : List ChunkText)
+        → HoldsChunks block.now volid number units chunks
         → OnOk result (bytes.new.items ≡ bytes.old.items ++ joined chunks) }
 {
     let mut at = 0;

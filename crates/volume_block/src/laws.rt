@@ -18,9 +18,9 @@ pub fn one_block()
 /// A data block holds one list of chunks.
 #[tactic(auto, using(crate::proofs::OneBlock::one_list_of_chunks))]
 pub fn one_list_of_chunks()
-    ensures { (bytes : List ℕ) (volid number volume place : ℕ) (chunks others : List ChunkText)
-        → HoldsChunks bytes volid number chunks
-        → HoldsChunks bytes volume place others → chunks ≡ others }
+    ensures { (bytes : List ℕ) (volid number units volume place others_units : ℕ)
+        (chunks others : List ChunkText) → HoldsChunks bytes volid number units chunks
+        → HoldsChunks bytes volume place others_units others → chunks ≡ others }
 {}
 
 /// Chunks that join to bytes have these bytes, in their order.

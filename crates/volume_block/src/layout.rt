@@ -14,8 +14,11 @@ pub(crate) const MARK_KIND: u8 = b'F';
 /// The kind byte of a data block.
 pub(crate) const DATA_KIND: u8 = b'D';
 
-/// The one form of blocks that there is.
-pub(crate) const FORM: u8 = 1;
+/// The form of blocks of volumes whose data blocks have one unit.
+pub(crate) const ONE_UNIT_FORM: u8 = 1;
+
+/// The form of blocks of volumes whose data blocks have more units.
+pub(crate) const LARGE_FORM: u8 = 2;
 
 /// The bytes of a block before its digest: kind, form, used length, volid and number.
 pub(crate) const HEAD_SIZE: usize = 24;
@@ -23,8 +26,11 @@ pub(crate) const HEAD_SIZE: usize = 24;
 /// Where a block's form stands.
 pub(crate) const FORM_PLACE: usize = 1;
 
+/// Where the units stand in the form of more than one.
+pub(crate) const UNITS_PLACE: usize = 2;
+
 /// Where a block's used length stands.
-const USED_PLACE: usize = 4;
+pub(crate) const USED_PLACE: usize = 4;
 
 /// Where a block's volid stands.
 pub(crate) const VOLID_PLACE: usize = 8;

@@ -2,11 +2,12 @@
 
 ghost use Rattle.std.specs.Prelude.{◌≡◌, ◌≤◌, ◌-◌, ◌++◌, ◌↔◌, ℕ, length, replicate, IsTrue};
 ghost use Rattle.std.specs.Prelude.{MatchOption};
+ghost use Rattle.volume_block.specs.Layout.{IsUnits};
 ghost use Rattle.volume_block.specs.Valid.{HasRanges};
 ghost use Rattle.volume_block.specs.Why.{IsCountIn, IsLabelIn, FitsPool};
 
 use crate::block::MAX_FILE_BLOCKS;
-use crate::label::{Label, MAX_CAPACITY, MAX_CART, MIN_CAPACITY};
+use crate::label::{Label, MAX_CAPACITY, MAX_CART, min_capacity};
 use crate::layout::{LABEL_FIELDS_SIZE, MARK_USED};
 use byteorder::{BigEndian, ByteOrder};
 use room_base::{Cart, MAX_MOMENT, Moment, Volid, name_text};
@@ -27,11 +28,12 @@ pub(crate) fn mark_count(payload: &[u8]) -> Option<u32>
     }
 }
 
-/// What a label of this volume with this payload says.
-pub(crate) fn label_in(volid: Volid, payload: &[u8]) -> Option<Label>
-    requires { 1 ≤ volid.0 }
-    ensures { MatchOption result ((label : Label) → ¬ IsLabelIn volid.0 payload.now label)
-        (IsLabelIn volid.0 payload.now) }
+/// What a label of this volume of so many units with this payload says.
+pub(crate) fn label_in(units: u32, volid: Volid, payload: &[u8]) -> Option<Label>
+    requires units { IsUnits units }
+    requires volume { 1 ≤ volid.0 }
+    ensures { MatchOption result ((label : Label) → ¬ IsLabelIn units volid.0 payload.now label)
+        (IsLabelIn units volid.0 payload.now) }
 {
     let pool_place = LABEL_FIELDS_SIZE as usize;
     if payload.len() < pool_place {
@@ -46,6 +48,7 @@ pub(crate) fn label_in(volid: Volid, payload: &[u8]) -> Option<Label>
         made: Moment(BigEndian::read_u64(&payload[8..])),
         pool_length,
         pool,
+        units,
     };
     if has_ranges(&label) {
         Some(label)
@@ -69,12 +72,13 @@ fn padded_pool(pool_length: u8, name: &[u8]) -> Option<[u8; 64]>
 }
 
 fn has_ranges(label: &Label) -> bool
-    requires { label.now.pool_length ≤ 64 }
+    requires pool { label.now.pool_length ≤ 64 }
+    requires units { IsUnits label.now.units }
     ensures { IsTrue result ↔ HasRanges label.now }
 {
     let name = &label.pool[..label.pool_length as usize];
     (1..=MAX_CART).contains(&label.cart.0)
-        && (MIN_CAPACITY..=MAX_CAPACITY).contains(&label.capacity)
+        && (min_capacity(label.units)..=MAX_CAPACITY).contains(&label.capacity)
         && label.made <= MAX_MOMENT
         && label.pool_length >= 1
         && name_text(name).is_some()

@@ -1,4 +1,5 @@
-ghost use Rattle.std.specs.Prelude.{◌≡◌, ◌≤◌, ◌<◌, length};
+ghost use Rattle.std.specs.Prelude.{◌≡◌, ◌≤◌, ◌<◌, ◌*◌, length};
+ghost use Rattle.volume_block.specs.Layout.{IsUnits};
 ghost use Rattle.volume_block.specs.Valid.{IsLabel};
 
 use super::*;
@@ -47,6 +48,7 @@ fn raw_label() -> Label
         made: Moment(1_700_000_000),
         pool_length: 3,
         pool: POOL,
+        units: 1,
     }
 }
 
@@ -68,7 +70,7 @@ fn label(rt: HostRuntime) {
 #[test]
 fn mark(rt: HostRuntime) {
     let mut block = [0xFFu8; BLOCK_SIZE];
-    encode_mark(RAW_VOLID, 1, 1, &mut block);
+    encode_mark(RAW_VOLID, 1, 1, 1, &mut block);
     assert!(rt; is_front(&block, &MARK_FRONT));
 }
 
@@ -92,7 +94,7 @@ fn why_of(place: usize, byte: u8) -> Option<Reason>
     requires { place < 4096 }
 {
     let mut block = [0u8; BLOCK_SIZE];
-    encode_mark(RAW_VOLID, 1, 1, &mut block);
+    encode_mark(RAW_VOLID, 1, 1, 1, &mut block);
     block[place] = byte;
     match decode_block(&block, RAW_VOLID, 1) {
         Ok(_) => None,
@@ -113,7 +115,7 @@ fn first_wrong_part(rt: HostRuntime) {
     assert_eq!(rt; why_of(24, 0), Some(Reason::Digest));
     assert_eq!(rt; why_of(59, 2), Some(Reason::Digest));
     let mut none = [0u8; BLOCK_SIZE];
-    finish_block(b'F', 1, 1, 4, &mut none);
+    finish_block(b'F', 1, 1, 1, 4, &mut none);
     assert!(rt;
         matches!(
             decode_block(&none, Volid(1), 1),
@@ -178,6 +180,75 @@ fn chunks(rt: HostRuntime) {
     assert_eq!(rt; two_chunks(&block), (Some(first), None));
     let bytes = bytes_in(&block, rt.alloc());
     assert!(rt; bytes.is_some_and(|bytes| bytes.as_slice() == b"abc".as_slice()));
+}
+
+// What is wrong with a data block of so many units in which one byte is another.
+fn why_of_data(units: usize, place: usize, byte: u8) -> Option<Reason>
+    requires units { (1 ≤ units) × (units ≤ 16) }
+    requires place { place < 4096 * units }
+{
+    let mut bytes = [0u8; MAX_BLOCK_SIZE];
+    let block = &mut bytes[..BLOCK_SIZE * units];
+    put_abc(&mut block[PAYLOAD_START..]);
+    seal_data(RAW_VOLID, 2, 27, block);
+    block[place] = byte;
+    match decode_block(block, RAW_VOLID, 2) {
+        Ok(_) => None,
+        Err(bad) => Some(bad.why),
+    }
+}
+
+// The form tells the units, and a data block has as many.
+fn tells(units: usize, form: u8, told: u8) -> bool
+    requires { (1 ≤ units) × (units ≤ 16) }
+{
+    why_of_data(units, 1, form).is_none()
+        && why_of_data(units, 3, told).is_none()
+        && why_of_data(units, 1, form ^ 3) == Some(Reason::Form)
+        && why_of_data(units, 2, 1) == Some(Reason::Form)
+        && why_of_data(units, BLOCK_SIZE * units - 1, 1) == Some(Reason::Length)
+        && why_of_data(units, 7, 26) == Some(Reason::Length)
+        && why_of_data(units, 82, b'd') == Some(Reason::Digest)
+}
+
+#[test]
+fn each_number_of_units(rt: HostRuntime) {
+    assert!(rt; tells(1, 1, 0));
+    assert!(rt; tells(2, 2, 2));
+    assert!(rt; tells(4, 2, 4));
+    assert!(rt; tells(8, 2, 8));
+    assert!(rt; tells(16, 2, 16));
+    // The units are digested, and a block has the size that they tell.
+    assert_eq!(rt; why_of_data(2, 3, 4), Some(Reason::Length));
+    assert_eq!(rt; why_of_data(4, 3, 3), Some(Reason::Form));
+    assert_eq!(rt; why_of_data(2, 3, 1), Some(Reason::Form));
+    // A block whose length has no form.
+    assert_eq!(rt; why_of_data(3, 0, b'D'), Some(Reason::Form));
+}
+
+// A mark of so many units, as it is read in so many bytes.
+fn mark_again(units: u32, size: usize) -> Result<Block, BadBlock>
+    requires units { IsUnits units }
+    requires size { (4096 ≤ size) × (size ≤ 65536) }
+{
+    let mut bytes = [0u8; MAX_BLOCK_SIZE];
+    encode_mark(RAW_VOLID, 5, 64, units, &mut bytes[..BLOCK_SIZE]);
+    decode_block(&bytes[..size], RAW_VOLID, 5)
+}
+
+#[test]
+fn mark_of_more_units(rt: HostRuntime) {
+    let mark = Block::Mark {
+        count: 64,
+        units: 16,
+    };
+    assert_eq!(rt; mark_again(16, BLOCK_SIZE), Ok(mark));
+    assert_eq!(rt;
+        mark_again(16, MAX_BLOCK_SIZE),
+        Err(BadBlock {
+            why: Reason::Length
+        })
+    );
 }
 
 // What may be named where one bit of this byte of `abc`'s data block is another: `F` for `D` is

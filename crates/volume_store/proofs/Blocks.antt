@@ -1,7 +1,7 @@
 -- The blocks of a file, by its bytes.
 use Rattle.std.proofs.Common.{◌≡◌, ℕ, ◌+◌, ◌*◌, ◌<◌, ◌≤◌, List, ◌∷◌, ◌++◌, length, take, drop, get_or, sym, ap, ◌∙◌, arith}
 use Rattle.std.proofs.lemmas.List.{append_assoc, length-take, length-drop, get_or-take, get_or-drop, ext_get_or, get_or-append-add, drop_at, take_at}
-use Rattle.volume_store.specs.Committed.{block_at}
+use Rattle.volume_store.specs.Committed.{part_at}
 
 -- two files have the same bytes below a place, which is in both
 pub record SameBelow (place : ℕ) (old new : List ℕ) : Type 0 where
@@ -20,10 +20,10 @@ part_same size at place old new same ends = ext_get_or 0 _ _
     ∙ same.bytes (at + k) (omega arith)
     ∙ sym (get_or-take size (drop at old) k 0 below ∙ get_or-drop at old k 0))
 
-pub block_same : (place number : ℕ) (old new : List ℕ) → SameBelow place old new → 4096 * number + 4096 ≤ place
-    → block_at new number ≡ block_at old number
-unfolding block_at
-block_same place number old new same ends = part_same 4096 (4096 * number) place old new same ends
+pub block_same : (size place number : ℕ) (old new : List ℕ) → SameBelow place old new → 4096 * number + size ≤ place
+    → part_at size new number ≡ part_at size old number
+unfolding part_at
+block_same size place number old new same ends = part_same size (4096 * number) place old new same ends
 
 -- a part behind so many bytes
 pub part_behind : (size at : ℕ) (before part rest : List ℕ) → length before ≡ at → length part ≡ size
@@ -33,10 +33,10 @@ part_behind size at before part rest from long =
     ∙ ap (take size) (drop_at before (part ++ rest) at from)
     ∙ take_at part rest size long
 
-pub block_behind : (number : ℕ) (before block rest : List ℕ) → length before ≡ 4096 * number → length block ≡ 4096
-    → block_at (before ++ block ++ rest) number ≡ block
-unfolding block_at
-block_behind number before block rest from long = part_behind 4096 (4096 * number) before block rest from long
+pub block_behind : (size number : ℕ) (before block rest : List ℕ) → length before ≡ 4096 * number → length block ≡ size
+    → part_at size (before ++ block ++ rest) number ≡ block
+unfolding part_at
+block_behind size number before block rest from long = part_behind size (4096 * number) before block rest from long
 
 -- the byte behind so many bytes
 pub byte_behind : (at byte : ℕ) (before rest : List ℕ) → length before ≡ at → get_or (before ++ byte ∷ rest) at 0 ≡ byte

@@ -37,7 +37,7 @@ labelled_empty label old allowed =
     let split : labelled label old ≡ [] ++ text ++ (closed_block ++ drop 8192 old) = append_assoc text closed_block (drop 8192 old) in
     let next : labelled label old ≡ text ++ 0 ∷ (replicate 4095 0 ++ drop 8192 old) =
     append_assoc text closed_block (drop 8192 old) ∙ ap (λ zeros. text ++ (zeros ++ drop 8192 old)) (first_zero 4095) in (
-      (allowed, refl, refl, ap (λ bytes. block_at bytes 0) split ∙ block_behind 0 [] text (closed_block ++ drop 8192 old) refl long),
+      (allowed, refl, refl, ap (λ bytes. block_at bytes 0) split ∙ block_behind 4096 0 [] text (closed_block ++ drop 8192 old) refl long),
       (
         refl,
         rw next (omega (arith, long, length-append text (0 ∷ (replicate 4095 0 ++ drop 8192 old)))),

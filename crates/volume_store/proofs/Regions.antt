@@ -13,22 +13,22 @@ opened_drop [] some = absurd (omega (arith, some))
 opened_drop (kind ∷ rest) some = refl
 
 -- a region isn't empty
-pub sealed_some : (volid mark : ℕ) (blocks : List (List ChunkText)) (region : List ℕ)
-    → IsSealed volid mark blocks region → 0 < length region
-sealed_some volid mark blocks region sealed =
+pub sealed_some : (volid mark units : ℕ) (blocks : List (List ChunkText)) (region : List ℕ)
+    → IsSealed volid mark units blocks region → 0 < length region
+sealed_some volid mark units blocks region sealed =
     rw sealed.text (omega (
       arith,
-      length-append (closed (mark_text volid mark (length blocks)) ++ blocks_text volid (mark + 1) blocks) closed_block,
+      length-append (closed (mark_text volid mark (length blocks) units) ++ blocks_text volid (mark + 1) units blocks) closed_block,
       length-closed_block,
     ))
 
 -- an open mark in front of the rest of a region
-pub opened_mark : (volid mark count : ℕ) (blocks rest : List ℕ)
-    → opened (closed (mark_text volid mark count) ++ blocks ++ rest) ≡ mark_text volid mark count ++ blocks ++ rest
+pub opened_mark : (volid mark count units : ℕ) (blocks rest : List ℕ)
+    → opened (closed (mark_text volid mark count units) ++ blocks ++ rest) ≡ mark_text volid mark count units ++ blocks ++ rest
 unfolding block_text
-opened_mark volid mark count blocks rest = refl
+opened_mark volid mark count units blocks rest = refl
 
-pub opened_region : (volid mark : ℕ) (blocks : List (List ChunkText)) (region : List ℕ) → IsSealed volid mark blocks region
-    → opened region ≡ mark_text volid mark (length blocks) ++ blocks_text volid (mark + 1) blocks ++ closed_block
-opened_region volid mark blocks region sealed =
-    ap opened sealed.text ∙ opened_mark volid mark (length blocks) (blocks_text volid (mark + 1) blocks) closed_block
+pub opened_region : (volid mark units : ℕ) (blocks : List (List ChunkText)) (region : List ℕ) → IsSealed volid mark units blocks region
+    → opened region ≡ mark_text volid mark (length blocks) units ++ blocks_text volid (mark + 1) units blocks ++ closed_block
+opened_region volid mark units blocks region sealed =
+    ap opened sealed.text ∙ opened_mark volid mark (length blocks) units (blocks_text volid (mark + 1) units blocks) closed_block

@@ -1,5 +1,5 @@
 -- With a file added there stand the chunks that stood, and those of the file.
-use Rattle.std.proofs.Common.{◌≡◌, ◌⊎◌, inl, inr, ℕ, zero, suc, ◌+◌, List, [], ◌∷◌, ◌++◌, length, map, refl, sym, ap, ◌∙◌, arith}
+use Rattle.std.proofs.Common.{◌≡◌, ◌⊎◌, inl, inr, ℕ, zero, suc, ◌+◌, ◌*◌, List, [], ◌∷◌, ◌++◌, length, map, refl, sym, ap, ◌∙◌, arith}
 use Rattle.std.specs.List.{Contains}
 use Rattle.std.specs.Prelude.{◌↔◌}
 use Rattle.std.proofs.lemmas.List.Elements.{Contains-append_cases, Contains-append_left, Contains-push}
@@ -36,9 +36,9 @@ only-file : (one file : CommittedFile) → Contains (one ∷ []) file → one �
 only-file one file (zero, below, is) = is
 only-file one file (suc at, below, is) = absurd (omega (arith, below))
 
-among-files : (volid : ℕ) (files others : List CommittedFile) (one : Standing) → (inside : InFiles volid files one) → Contains others inside.file
-    → InFiles volid others one
-among-files volid files others one inside among = record {
+among-files : (volid units : ℕ) (files others : List CommittedFile) (one : Standing) → (inside : InFiles volid units files one) → Contains others inside.file
+    → InFiles volid units others one
+among-files volid units files others one inside among = record {
   volume = inside.volume;
   file = inside.file;
   among = among;
@@ -52,10 +52,10 @@ among-files volid files others one inside among = record {
   start = inside.start;
 }
 
-in-added : (volid mark : ℕ) (blocks : List (List ChunkText)) (files : List CommittedFile) (one : Standing)
-    → InFiles volid (files ++ added_file mark blocks ∷ []) one → InFiles volid files one ⊎ InBlocks volid mark blocks one
-in-added volid mark blocks files one inside = elim (Contains-append_cases files (added_file mark blocks ∷ []) inside.file inside.among) [
-  | inl before ↦ inl (among-files volid (files ++ added_file mark blocks ∷ []) files one inside before)
+in-added : (volid mark units : ℕ) (blocks : List (List ChunkText)) (files : List CommittedFile) (one : Standing)
+    → InFiles volid units (files ++ added_file mark blocks ∷ []) one → InFiles volid units files one ⊎ InBlocks volid mark units blocks one
+in-added volid mark units blocks files one inside = elim (Contains-append_cases files (added_file mark blocks ∷ []) inside.file inside.among) [
+  | inl before ↦ inl (among-files volid units (files ++ added_file mark blocks ∷ []) files one inside before)
   | inr last ↦
       let e : added_file mark blocks ≡ inside.file = only-file (added_file mark blocks) inside.file last in
       let at : mark ≡ inside.file.mark = ap (λ (file : CommittedFile). file.mark) e in
@@ -71,15 +71,15 @@ in-added volid mark blocks files one inside = elim (Contains-append_cases files 
         after = inside.after;
         later = split.back;
         parts = split.parts;
-        block = omega (arith, b, at, size);
+        block = b ∙ ap (λ (n : ℕ). n + 1 + units * length inside.earlier) (sym at) ∙ ap (λ (n : ℕ). mark + 1 + units * n) (sym size);
         start = inside.start;
       }
 ]
 
-kept-file : (volid : ℕ) (files : List CommittedFile) (added : CommittedFile) (one : Standing) → InFiles volid files one
-    → InFiles volid (files ++ added ∷ []) one
-kept-file volid files added one inside =
-    among-files volid files (files ++ added ∷ []) one inside (Contains-append_left files (added ∷ []) inside.file inside.among)
+kept-file : (volid units : ℕ) (files : List CommittedFile) (added : CommittedFile) (one : Standing) → InFiles volid units files one
+    → InFiles volid units (files ++ added ∷ []) one
+kept-file volid units files added one inside =
+    among-files volid units files (files ++ added ∷ []) one inside (Contains-append_left files (added ∷ []) inside.file inside.among)
 
 whole-long : (blocks : List (List ChunkText)) → length (map Whole blocks) ≡ length blocks
 whole-long [] = refl
@@ -89,9 +89,9 @@ whole-append : (front back : List (List ChunkText)) → map Whole (front ++ back
 whole-append [] back = refl
 whole-append (block ∷ front) back = ap (λ (places : List DataPlace). Whole block ∷ places) (whole-append front back)
 
-new-file : (volid mark : ℕ) (blocks : List (List ChunkText)) (files : List CommittedFile) (one : Standing) → InBlocks volid mark blocks one
-    → InFiles volid (files ++ added_file mark blocks ∷ []) one
-new-file volid mark blocks files one inside =
+new-file : (volid mark units : ℕ) (blocks : List (List ChunkText)) (files : List CommittedFile) (one : Standing) → InBlocks volid mark units blocks one
+    → InFiles volid units (files ++ added_file mark blocks ∷ []) one
+new-file volid mark units blocks files one inside =
     let b = inside.block in
     let size : length (map Whole inside.earlier) ≡ length inside.earlier = whole-long inside.earlier in
     record {
@@ -104,23 +104,23 @@ new-file volid mark blocks files one inside =
       after = inside.after;
       later = map Whole inside.later;
       places = ap (map Whole) inside.parts ∙ whole-append inside.earlier ((inside.before ++ one.chunk ∷ inside.after) ∷ inside.later);
-      block = omega (arith, b, size);
+      block = b ∙ ap (λ (n : ℕ). mark + 1 + units * n) (sym size);
       start = inside.start;
     }
 
 pub file_adds : (old new : List ℕ) (label : Label) (files : List CommittedFile) (mark : ℕ) (blocks : List (List ChunkText)) (one : Standing)
     → Committed old (Labelled label files (Closed mark)) → Committed new (with_file label files mark blocks)
-    → StandsIn new one ↔ (StandsIn old one ⊎ InBlocks label.volid.0 mark blocks one)
+    → StandsIn new one ↔ (StandsIn old one ⊎ InBlocks label.volid.0 mark label.units blocks one)
 file_adds old new label files mark blocks one before now =
     let added = added_file mark blocks in
-    let after = stand_in_files new label (files ++ added ∷ []) (Closed (mark + length blocks + 1)) one now in
+    let after = stand_in_files new label (files ++ added ∷ []) (Closed (mark + label.units * length blocks + 1)) one now in
     let earlier = stand_in_files old label files (Closed mark) one before in (
-      (λ stands. elim (in-added label.volid.0 mark blocks files one (after.0 stands)) [
+      (λ stands. elim (in-added label.volid.0 mark label.units blocks files one (after.0 stands)) [
         | inl kept ↦ inl (earlier.1 kept)
         | inr more ↦ inr more
       ]),
       (λ either. elim either [
-        | inl kept ↦ after.1 (kept-file label.volid.0 files added one (earlier.0 kept))
-        | inr more ↦ after.1 (new-file label.volid.0 mark blocks files one more)
+        | inl kept ↦ after.1 (kept-file label.volid.0 label.units files added one (earlier.0 kept))
+        | inr more ↦ after.1 (new-file label.volid.0 mark label.units blocks files one more)
       ]),
     )

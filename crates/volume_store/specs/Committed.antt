@@ -1,14 +1,23 @@
 -- What stands on a cartridge: its label, and its committed files.
 use Rattle.std.specs.Prelude.{◌≡◌, ◌≢◌, ◌⊎◌, ℕ, ◌+◌, ◌*◌, ◌≤◌, ◌<◌, List, [], ◌∷◌, length, take}
 use Rattle.std.specs.Prelude.{drop, slice_index}
+use Rattle.volume_block.specs.Layout.{data_size}
 use Rattle.volume_block.specs.Chunks.{ChunkText}
 use Rattle.volume_block.specs.Valid.{ValidBlock, HoldsChunks}
 use Rattle.volume_block.specs.declared.label.Label.{Label}
 use Rattle.volume_block.specs.declared.block.Block.TheVariants as kinds
 
--- the bytes of a block, of which there are fewer where the file ends inside it
-unfoldable pub block_at : List ℕ → ℕ → List ℕ
-block_at bytes number = take 4096 (drop (4096 * number) bytes)
+-- so many bytes from a block's place on, of which there are fewer where the file ends inside them
+unfoldable pub part_at : ℕ → List ℕ → ℕ → List ℕ
+part_at size bytes number = take size (drop (4096 * number) bytes)
+
+-- the bytes of a label or a mark
+abbrev pub block_at : List ℕ → ℕ → List ℕ
+block_at bytes number = part_at 4096 bytes number
+
+-- the bytes of a data block of so many units
+abbrev pub data_at : ℕ → List ℕ → ℕ → List ℕ
+data_at units bytes number = part_at (data_size units) bytes number
 
 -- the kind byte of a block, 0 where the file ends before it
 abbrev pub kind_byte_at : List ℕ → ℕ → ℕ
@@ -19,44 +28,47 @@ pub data DataPlace : Type 0 where
   Whole : List ChunkText → DataPlace
   Damaged : DataPlace
 
-abbrev pub IsDataPlace : List ℕ → ℕ → ℕ → DataPlace → Type 0
-IsDataPlace bytes volid number (Whole chunks) =
-    HoldsChunks (block_at bytes number) volid number chunks
-IsDataPlace bytes volid number Damaged =
-    (chunks : List ChunkText) → HoldsChunks (block_at bytes number) volid number chunks → ⊥
+abbrev pub IsDataPlace : List ℕ → ℕ → ℕ → ℕ → DataPlace → Type 0
+IsDataPlace bytes volid units number (Whole chunks) =
+    HoldsChunks (data_at units bytes number) volid number units chunks
+IsDataPlace bytes volid units number Damaged = (chunks : List ChunkText)
+    → HoldsChunks (data_at units bytes number) volid number units chunks → ⊥
 
--- data places one behind the other, numbered from `first`
-abbrev pub AreDataPlaces : List ℕ → ℕ → ℕ → List DataPlace → Type 0
-AreDataPlaces bytes volid first [] = Unit {0}
-AreDataPlaces bytes volid first (place ∷ places) =
-    IsDataPlace bytes volid first place × AreDataPlaces bytes volid (first + 1) places
+-- data places of so many units one behind the other, numbered from `first`
+abbrev pub AreDataPlaces : List ℕ → ℕ → ℕ → ℕ → List DataPlace → Type 0
+AreDataPlaces bytes volid units first [] = Unit {0}
+AreDataPlaces bytes volid units first (place ∷ places) =
+    IsDataPlace bytes volid units first place
+    × AreDataPlaces bytes volid units (first + units) places
 
 -- a committed file: where its mark stands, and its data places
 pub record CommittedFile : Type 0 where
   pub mark : ℕ
   pub places : List DataPlace
 
--- where the committed files end: at a closed mark place, or at one that is invalid or not there
+-- where the committed files end: at a closed mark place, or at one that is invalid, of other units,
+-- or not there
 pub data End : Type 0 where
   Closed : ℕ → End
   Stop : ℕ → End
 
-abbrev pub EndsAt : List ℕ → ℕ → ℕ → End → Type 0
-EndsAt bytes volid mark (Closed place) =
+abbrev pub EndsAt : List ℕ → ℕ → ℕ → ℕ → End → Type 0
+EndsAt bytes volid units mark (Closed place) =
     (place ≡ mark) × (4096 * mark < length bytes) × (kind_byte_at bytes mark ≢ 0x46)
-EndsAt bytes volid mark (Stop place) = (place ≡ mark)
+EndsAt bytes volid units mark (Stop place) = (place ≡ mark)
     × ((length bytes ≤ 4096 * mark)
     ⊎ ((kind_byte_at bytes mark ≡ 0x46)
-    × ((count : ℕ) → ValidBlock (block_at bytes mark) volid mark (kinds.Mark count) → ⊥)))
+    × ((count : ℕ) → ValidBlock (block_at bytes mark) volid mark (kinds.Mark count units)
+    → ⊥)))
 
 -- The files from this mark place on, and their end. Each has a valid open mark with the count of
--- its data places, and the next mark place is behind the last of these.
-abbrev pub FilesFrom : List ℕ → ℕ → ℕ → List CommittedFile → End → Type 0
-FilesFrom bytes volid mark [] end = EndsAt bytes volid mark end
-FilesFrom bytes volid mark (file ∷ files) end = (file.mark ≡ mark)
-    × ValidBlock (block_at bytes mark) volid mark (kinds.Mark (length file.places))
-    × AreDataPlaces bytes volid (mark + 1) file.places
-    × FilesFrom bytes volid (mark + length file.places + 1) files end
+-- its data places and the volume's units, and the next mark place is behind the last of these.
+abbrev pub FilesFrom : List ℕ → ℕ → ℕ → ℕ → List CommittedFile → End → Type 0
+FilesFrom bytes volid units mark [] end = EndsAt bytes volid units mark end
+FilesFrom bytes volid units mark (file ∷ files) end = (file.mark ≡ mark)
+    × ValidBlock (block_at bytes mark) volid mark (kinds.Mark (length file.places) units)
+    × AreDataPlaces bytes volid units (mark + 1) file.places
+    × FilesFrom bytes volid units (mark + units * length file.places + 1) files end
 
 -- what a cartridge is
 pub data Contents : Type 0 where
@@ -74,4 +86,4 @@ Committed bytes Unlabelled = slice_index bytes 0 ≢ 0x4C
 Committed bytes BadLabel =
     (slice_index bytes 0 ≡ 0x4C) × ((label : Label) → HasLabel bytes label → ⊥)
 Committed bytes (Labelled label files end) =
-    HasLabel bytes label × FilesFrom bytes label.volid.0 1 files end
+    HasLabel bytes label × FilesFrom bytes label.volid.0 label.units 1 files end

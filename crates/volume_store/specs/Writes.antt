@@ -29,7 +29,8 @@ added_file mark blocks = record { mark = mark; places = map Whole blocks }
 -- a cartridge with that file behind the others
 abbrev pub with_file : Label → List CommittedFile → ℕ → List (List ChunkText) → Contents
 with_file label files mark blocks =
-    Labelled label (files ++ added_file mark blocks ∷ []) (Closed (mark + length blocks + 1))
+    Labelled label (files ++ added_file mark blocks ∷ [])
+    (Closed (mark + label.units * length blocks + 1))
 
 -- the cartridge has the old files, or these and the one that is committed
 abbrev pub IsWholeOrAbsent : Label → List CommittedFile → ℕ → List (List ChunkText) → List ℕ
@@ -43,14 +44,15 @@ IsWholeOrAbsent label files mark blocks bytes =
 pub record AddsFile (label : Label) (mark : ℕ) (region old new : List ℕ) : Type 0 where
   pub written : new ≡ overlaid (4096 * mark) (opened region) old
   pub added : (files : List CommittedFile) (blocks : List (List ChunkText))
-      → IsSealed label.volid.0 mark blocks region
+      → IsSealed label.volid.0 mark label.units blocks region
       → Committed old (Labelled label files (Closed mark))
       → Committed new (with_file label files mark blocks)
 
 -- what a commit that may have been cut short leaves: the old files, or these and the new one
 abbrev pub MayAddFile : Label → ℕ → List ℕ → List ℕ → List ℕ → Type 0
 MayAddFile label mark region old new = (files : List CommittedFile) (blocks : List (List ChunkText))
-    → IsSealed label.volid.0 mark blocks region → Committed old (Labelled label files (Closed mark))
+    → IsSealed label.volid.0 mark label.units blocks region
+    → Committed old (Labelled label files (Closed mark))
     → IsWholeOrAbsent label files mark blocks new
 
 -- a cartridge with a new label, and what stood behind its first two blocks

@@ -1,4 +1,4 @@
-ghost use Rattle.std.specs.Prelude.{◌≡◌, ◌+◌, ◌≤◌, OnOk, OnErr, List, length};
+ghost use Rattle.std.specs.Prelude.{◌≡◌, ◌+◌, ◌*◌, ◌≤◌, OnOk, OnErr, List, length};
 ghost use Rattle.room_disk.specs.Writing.{WritesFile};
 ghost use Rattle.volume_block.specs.Chunks.{ChunkText};
 ghost use Rattle.volume_block.specs.Region.{IsSealed};
@@ -30,21 +30,23 @@ impl Volume {
     ) -> Result<(), Failed>
         requires cart { IsCart self.old.cart.0 }
         requires sealed { (blocks : List (List ChunkText)) × (length blocks ≡ count)
-            × IsSealed self.old.label.volid.0 self.old.mark blocks region.now }
-        requires room { self.old.mark + count + 2 ≤ self.old.label.capacity }
+            × IsSealed self.old.label.volid.0 self.old.mark self.old.label.units blocks region.now }
+        requires room { self.old.mark + self.old.label.units * count + 2
+            ≤ self.old.label.capacity }
         ensures writes { WritesFile (cart_file self.old.cart.0)
             (AddsFile self.old.label self.old.mark region.now)
             (MayAddFile self.old.label self.old.mark region.now)
             (D.view store.old) (D.view store.new) result }
         ensures mark { OnOk result
-            (self.new ≡ record self.old { mark = self.old.mark + count + 1 }) }
+            (self.new
+            ≡ record self.old { mark = self.old.mark + self.old.label.units * count + 1 }) }
         ensures kept { OnErr result (self.new ≡ self.old) }
     {
         let file = self.cart.0 + 1;
         let gate = BLOCK_SIZE as u64 * self.mark;
         let (_, rest) = region.split_at(1);
         write_gated(store, file, gate, MARK_GATE, rest)?;
-        self.mark += u64::from(count) + 1;
+        self.mark += u64::from(self.label.units * count) + 1;
         Ok(())
     }
 }

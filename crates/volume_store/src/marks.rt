@@ -4,6 +4,7 @@ ghost use Rattle.std.specs.Prelude.{◌≡◌, ◌≢◌, ◌+◌, ◌*◌, ◌-
 ghost use Rattle.std.specs.Prelude.{length, slice_index, IfOk};
 ghost use Rattle.room_base.specs.Outside.{Told};
 ghost use Rattle.room_disk.specs.Disk.{Quiet, FileCause, FaultCause};
+ghost use Rattle.volume_block.specs.Layout.{IsUnits};
 ghost use Rattle.volume_block.specs.Valid.{IsLabel};
 ghost use Rattle.volume_store.specs.Committed.{block_at};
 ghost use Rattle.volume_store.specs.Writes.{cart_file, IsCart};
@@ -24,7 +25,8 @@ use volume_block::{BLOCK_SIZE, Block};
 pub enum MountFault {
     /// It is blank, or has no label.
     Unlabelled,
-    /// Its label, number 0, or the mark with this number isn't valid, or isn't there.
+    /// Its label, number 0, or the mark with this number isn't valid, has other units than the
+    /// label, or isn't there.
     BadBlock { number: u64 },
     /// The disk failed.
     Failed,
@@ -44,7 +46,7 @@ impl From<Failed> for MountFault {
 /// Why a walk over marks doesn't come to their end.
 #[derive(Clone, Copy, Debug, PartialEq, Eq)]
 pub enum WalkFault {
-    /// The mark with this number isn't valid, or isn't there.
+    /// The mark with this number isn't valid, has other units, or isn't there.
     BadMark { number: u64 },
     /// The disk failed.
     Failed,
@@ -86,7 +88,7 @@ pub enum MarkPlace {
     Closed,
     /// A file of so many data blocks.
     Open { count: u32 },
-    /// A mark that isn't valid, or isn't there.
+    /// A mark that isn't valid, has other units, or isn't there.
     Bad,
 }
 
@@ -117,7 +119,7 @@ pub fn mount<D: Store>(store: &mut D, cart: Cart) -> Result<Volume, MountFault>
         Found::Damaged(_) => return Err(MountFault::BadBlock { number: 0 }),
         Found::Labelled(label) => label,
     };
-    match walk_marks(store, cart, label.volid, 0) {
+    match walk_marks(store, cart, label.volid, label.units, 0) {
         Ok(walk) => Ok(Volume {
             label,
             cart,
@@ -128,32 +130,34 @@ pub fn mount<D: Store>(store: &mut D, cart: Cart) -> Result<Volume, MountFault>
     }
 }
 
-/// Goes over the marks of a labelled cartridge, each of which it reads once, and looks for the file
-/// with this number, counted from 1; 0 asks for none. A mark that isn't valid, or isn't there, is
-/// `BadMark`.
+/// Goes over the marks of a labelled cartridge of so many units, each of which it reads once, and
+/// looks for the file with this number, counted from 1; 0 asks for none. A mark that isn't valid,
+/// has other units, or isn't there, is `BadMark`.
 pub fn walk_marks<D: Store>(
     store: &mut D,
     cart: Cart,
     volid: Volid,
+    units: u32,
     wanted: u64,
 ) -> Result<MarkWalk, WalkFault>
-    requires { IsCart cart.0 }
+    requires cart { IsCart cart.0 }
+    requires units { IsUnits units }
     ensures cause { FaultCause (cart_file cart.0) (D.view store.old) (D.view store.new)
         (result ≡ Err walks.Failed) }
     ensures tells { (D.view store.new).tells ≡ (D.view store.old).tells }
     ensures quiet { Told (D.view store.old).tells (Quiet (D.view store.old) (D.view store.new)) }
-    ensures range { IfOk result (λ walk. HasRange (2 ^ 52) walk) }
+    ensures range { IfOk result (λ walk. HasRange (2 ^ 52) units walk) }
     ensures walked { Told (D.view store.old).tells
-        (Walks ((D.view store.old).reads (cart_file cart.0)) volid.0 wanted result) }
+        (Walks ((D.view store.old).reads (cart_file cart.0)) volid.0 units wanted result) }
 {
     let file = cart.0 + 1;
     let blocks = block_count(store.len(file)?);
     let mut walk = MarkWalk::first();
     while walk.end < blocks {
-        match read_mark(store, cart, volid, walk.end)? {
+        match read_mark(store, cart, volid, units, walk.end)? {
             MarkPlace::Closed => return Ok(walk),
             MarkPlace::Bad => return Err(WalkFault::BadMark { number: walk.end }),
-            MarkPlace::Open { count } => walk = walk.past(count, wanted),
+            MarkPlace::Open { count } => walk = walk.past(count, units, wanted),
         }
     }
     Err(WalkFault::BadMark { number: walk.end })
@@ -171,13 +175,14 @@ impl MarkWalk {
         }
     }
 
-    // The walk behind a file of so many data blocks.
-    fn past(self, count: u32, wanted: u64) -> MarkWalk
+    // The walk behind a file of so many data blocks of so many units.
+    fn past(self, count: u32, units: u32, wanted: u64) -> MarkWalk
         requires end { self.end < 2 ^ 52 }
         requires files { self.files < self.end }
         requires count { count ≤ 64 }
+        requires units { units ≤ 16 }
         ensures files { result.files ≡ self.files + 1 }
-        ensures end { result.end ≡ self.end + count + 1 }
+        ensures end { result.end ≡ self.end + units * count + 1 }
         ensures this { self.files + 1 ≡ wanted
             → result.wanted ≡ Some (record { mark = self.end; count = count }) }
         ensures other { self.files + 1 ≢ wanted → result.wanted ≡ self.wanted }
@@ -189,7 +194,7 @@ impl MarkWalk {
         };
         MarkWalk {
             files,
-            end: self.end + u64::from(count) + 1,
+            end: self.end + u64::from(units * count) + 1,
             wanted: if files == wanted {
                 Some(place)
             } else {
@@ -208,11 +213,12 @@ fn block_count(len: u64) -> u64
     len / size + u64::from(len % size != 0)
 }
 
-/// Reads the mark place with this number of this volume.
+/// Reads the mark place with this number of this volume of so many units.
 pub fn read_mark<D: Store>(
     store: &mut D,
     cart: Cart,
     volid: Volid,
+    units: u32,
     number: u64,
 ) -> Result<MarkPlace, Failed>
     requires { IsCart cart.0 }
@@ -221,33 +227,39 @@ pub fn read_mark<D: Store>(
     ensures quiet { Told (D.view store.old).tells (Quiet (D.view store.old) (D.view store.new)) }
     ensures count { IfOk result HasCount }
     ensures found { Told (D.view store.old).tells (IfOk result (FindsMark
-        (block_at ((D.view store.old).reads (cart_file cart.0)) number) volid.0 number)) }
+        (block_at ((D.view store.old).reads (cart_file cart.0)) number) volid.0 units number)) }
 {
     let mut block = [0; BLOCK_SIZE];
     let count = read_front(store, cart.0 + 1, number, &mut block)?;
-    Ok(mark_place_of(&block[..count], volid, number))
+    Ok(mark_place_of(&block[..count], volid, units, number))
 }
 
-fn mark_place_of(bytes: &[u8], volid: Volid, number: u64) -> MarkPlace
+fn mark_place_of(bytes: &[u8], volid: Volid, units: u32, number: u64) -> MarkPlace
     requires { length bytes.now ≤ 4096 }
-    ensures found { FindsMark bytes.now volid.0 number result }
+    ensures found { FindsMark bytes.now volid.0 units number result }
     ensures count { HasCount result }
 {
     match bytes {
         [] => MarkPlace::Bad,
-        [MARK_GATE, ..] => open_mark_of(bytes, volid, number),
+        [MARK_GATE, ..] => open_mark_of(bytes, volid, units, number),
         _ => MarkPlace::Closed,
     }
 }
 
-fn open_mark_of(bytes: &[u8], volid: Volid, number: u64) -> MarkPlace
+fn open_mark_of(bytes: &[u8], volid: Volid, units: u32, number: u64) -> MarkPlace
     requires size { length bytes.now ≤ 4096 }
     requires open { slice_index bytes.now 0 ≡ 0x46 }
-    ensures found { FindsMark bytes.now volid.0 number result }
+    ensures found { FindsMark bytes.now volid.0 units number result }
     ensures count { HasCount result }
 {
-    match judge_block(bytes, volid, number) {
-        Ok(Block::Mark { count }) => MarkPlace::Open { count },
+    match judge_block(bytes, BLOCK_SIZE, volid, number) {
+        Ok(Block::Mark { count, units: told }) => {
+            if told == units {
+                MarkPlace::Open { count }
+            } else {
+                MarkPlace::Bad
+            }
+        }
         Ok(Block::Label(_)) => MarkPlace::Bad,
         Ok(Block::Data { .. }) => MarkPlace::Bad,
         Err(_) => MarkPlace::Bad,

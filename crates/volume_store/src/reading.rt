@@ -3,16 +3,17 @@
 ghost use Rattle.std.specs.Prelude.{◌≡◌, ◌≤◌, ◌<◌, ◌*◌, Ok, Err, length, take, drop, IfOk, OnOk};
 ghost use Rattle.room_base.specs.Outside.{Told};
 ghost use Rattle.room_disk.specs.Disk.{Quiet, FileCause, FaultCause};
-ghost use Rattle.volume_block.specs.Valid.{ValidBlock};
+ghost use Rattle.volume_block.specs.Valid.{ValidBlock, size_of};
 ghost use Rattle.volume_block.specs.declared.block.Block.{Block};
 ghost use Rattle.volume_store.specs.declared.reading.ReadFault.TheVariants as faults;
-ghost use Rattle.volume_store.specs.Committed.{block_at};
+ghost use Rattle.volume_store.specs.Committed.{block_at, part_at};
 ghost use Rattle.volume_store.specs.Writes.{cart_file, IsCart};
 ghost use Rattle.volume_store.specs.Reads.{HoldsBlocks, JudgesBlock, IsJudged};
+ghost use Rattle.volume_store.specs.Reads.{BeginsSize};
 
 use room_base::{Cart, Failed, Volid};
 use room_disk::Store;
-use volume_block::{BLOCK_SIZE, BadBlock, Block, Reason, decode_block};
+use volume_block::{BLOCK_SIZE, BadBlock, Block, Reason, decode_block, size_told};
 
 /// Why a block wasn't read.
 #[derive(Clone, Copy, Debug, PartialEq, Eq)]
@@ -35,8 +36,8 @@ impl From<Failed> for ReadFault {
     }
 }
 
-/// Reads the block with this number of this volume from a cartridge. `into` has the block's bytes
-/// after an `Ok`.
+/// Reads the block with this number of this volume from a cartridge. It reads 4,096 bytes, and then
+/// as many as these tell that the block has. `into` begins with the block after an `Ok`.
 pub fn read_block<D: Store>(
     store: &mut D,
     cart: Cart,
@@ -45,22 +46,89 @@ pub fn read_block<D: Store>(
     into: &mut [u8],
 ) -> Result<Block, ReadFault>
     requires cart { IsCart cart.0 }
-    requires whole { length into.old ≡ 4096 }
+    requires whole { length into.old ≡ 65536 }
     ensures cause { FaultCause (cart_file cart.0) (D.view store.old) (D.view store.new)
         (result ≡ Err faults.Failed) }
     ensures tells { (D.view store.new).tells ≡ (D.view store.old).tells }
     ensures quiet { Told (D.view store.old).tells (Quiet (D.view store.old) (D.view store.new)) }
-    ensures valid { IfOk result (λ block. ValidBlock into.new volid.0 number block) }
-    ensures read { Told (D.view store.old).tells
-        (OnOk result (into.new ≡ block_at ((D.view store.old).reads (cart_file cart.0)) number)) }
+    ensures valid { IfOk result (λ block.
+        ValidBlock (take (size_of block) into.new) volid.0 number block) }
+    ensures read { Told (D.view store.old).tells (IfOk result (λ block.
+        take (size_of block) into.new
+        ≡ part_at (size_of block) ((D.view store.old).reads (cart_file cart.0)) number)) }
     ensures judged { Told (D.view store.old).tells
-        (JudgesBlock
-        (block_at ((D.view store.old).reads (cart_file cart.0)) number) volid.0 number result) }
+        (JudgesBlock ((D.view store.old).reads (cart_file cart.0)) volid.0 number result) }
 {
-    let count = read_front(store, cart.0 + 1, number, into)?;
-    match judge_block(&into[..count], volid, number) {
+    let read = read_told(store, cart.0 + 1, number, into)?;
+    match judge_block(&into[..read.count], read.size, volid, number) {
         Ok(block) => Ok(block),
         Err(bad) => Err(ReadFault::Bad(bad)),
+    }
+}
+
+// How many bytes a block has, and how many of them are there.
+#[derive(Clone, Copy)]
+struct ReadSize {
+    size: usize,
+    count: usize,
+}
+
+// Reads the front of a block, and then the block, where it has more bytes.
+fn read_told<D: Store>(
+    store: &mut D,
+    file: u32,
+    number: u64,
+    into: &mut [u8],
+) -> Result<ReadSize, Failed>
+    requires { length into.old ≡ 65536 }
+    ensures within { IfOk result (λ read.
+        (read.count ≤ read.size) × (4096 ≤ read.size) × (read.size ≤ 65536)) }
+    ensures cause { FileCause file (D.view store.old) (D.view store.new) result }
+    ensures tells { (D.view store.new).tells ≡ (D.view store.old).tells }
+    ensures quiet { Told (D.view store.old).tells (Quiet (D.view store.old) (D.view store.new)) }
+    ensures told { Told (D.view store.old).tells (IfOk result (λ read.
+        BeginsSize (block_at ((D.view store.old).reads file) number) read.size)) }
+    ensures read { Told (D.view store.old).tells (IfOk result (λ read.
+        take read.count into.new ≡ part_at read.size ((D.view store.old).reads file) number)) }
+{
+    let count = read_part(store, file, number, BLOCK_SIZE, into)?;
+    let size = size_begun(&into[..count]);
+    if size == BLOCK_SIZE {
+        return Ok(ReadSize { size, count });
+    }
+    let count = read_part(store, file, number, size, into)?;
+    Ok(ReadSize { size, count })
+}
+
+// Reads so many bytes from the block with this number on, and answers how many of them are there.
+fn read_part<D: Store>(
+    store: &mut D,
+    file: u32,
+    number: u64,
+    size: usize,
+    into: &mut [u8],
+) -> Result<usize, Failed>
+    requires { size ≤ length into.old }
+    ensures room { length into.new ≡ length into.old }
+    ensures within { IfOk result (λ count. count ≤ size) }
+    ensures cause { FileCause file (D.view store.old) (D.view store.new) result }
+    ensures tells { (D.view store.new).tells ≡ (D.view store.old).tells }
+    ensures quiet { Told (D.view store.old).tells (Quiet (D.view store.old) (D.view store.new)) }
+    ensures read { Told (D.view store.old).tells (IfOk result (λ count.
+        take count into.new ≡ part_at size ((D.view store.old).reads file) number)) }
+{
+    read_from(store, file, number, &mut into[..size])
+}
+
+// The size of the block that begins with these bytes.
+fn size_begun(front: &[u8]) -> usize
+    ensures size { BeginsSize front.now result }
+    ensures range { (4096 ≤ result) × (result ≤ 65536) }
+{
+    if front.len() < BLOCK_SIZE {
+        BLOCK_SIZE
+    } else {
+        size_told(front)
     }
 }
 
@@ -86,15 +154,17 @@ pub fn read_blocks<D: Store>(
 }
 
 #[tactic(auto, using(crate::proofs::Finding::wrong_block))]
-/// Judges the bytes of the block with this number of this volume, of which some may be missing
-/// where the file ends inside it.
-pub fn judge_block(bytes: &[u8], volid: Volid, number: u64) -> Result<Block, BadBlock>
-    requires { length bytes.now ≤ 4096 }
-    ensures judged { IsJudged bytes.now volid.0 number result }
-    ensures whole { OnOk result (length bytes.now ≡ 4096) }
-    ensures only { (block : Block) → ValidBlock bytes.now volid.0 number block → result ≡ Ok block }
+/// Judges the bytes of the block of `size` bytes with this number of this volume, of which some may
+/// be missing where the file ends inside it.
+pub fn judge_block(bytes: &[u8], size: usize, volid: Volid, number: u64) -> Result<Block, BadBlock>
+    requires size { 4096 ≤ size }
+    requires within { length bytes.now ≤ size }
+    ensures judged { IsJudged size bytes.now volid.0 number result }
+    ensures whole { OnOk result (length bytes.now ≡ size) }
+    ensures only { (block : Block) → size_of block ≡ size
+        → ValidBlock bytes.now volid.0 number block → result ≡ Ok block }
 {
-    if bytes.len() < BLOCK_SIZE {
+    if bytes.len() < size {
         return Err(BadBlock {
             why: Reason::Length,
         });

@@ -15,7 +15,7 @@ ghost use Rattle.volume_store.specs.Writes.{with_file};
 pub fn chunks_stand_in_files()
     ensures files { (bytes : List ℕ) (label : Label) (files : List CommittedFile) (end : End)
         (one : Standing) → Committed bytes (Labelled label files end)
-        → StandsIn bytes one ↔ InFiles label.volid.0 files one }
+        → StandsIn bytes one ↔ InFiles label.volid.0 label.units files one }
     ensures unlabelled { (bytes : List ℕ) (one : Standing) → Committed bytes Unlabelled
         → ¬ StandsIn bytes one }
     ensures bad { (bytes : List ℕ) (one : Standing) → Committed bytes BadLabel
@@ -29,7 +29,8 @@ pub fn a_file_adds_its_chunks()
         (blocks : List (List ChunkText)) (one : Standing)
         → Committed old (Labelled label files (Closed mark))
         → Committed new (with_file label files mark blocks)
-        → StandsIn new one ↔ (StandsIn old one ⊎ InBlocks label.volid.0 mark blocks one) }
+        → StandsIn new one
+        ↔ (StandsIn old one ⊎ InBlocks label.volid.0 mark label.units blocks one) }
 {}
 
 /// One chunk stands in one place of a cartridge, which a block and a byte in it are.

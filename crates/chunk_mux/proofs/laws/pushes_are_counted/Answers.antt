@@ -1,5 +1,5 @@
 use Rattle.std.proofs.Common.{arith}
-use Rattle.chunk_mux.specs.Packing.{pack}
+use Rattle.chunk_mux.specs.Packing.{pack, payload_size}
 use Rattle.chunk_mux.proofs.Numbers.{length-packed, room-packed, fits-packed}
 use Rattle.chunk_mux.proofs.laws.pushes_are_counted.Goals as goal
 
@@ -15,4 +15,5 @@ returns-clause-fits c = λ size most blocks ssid copy offset piece some few.
 
 pub returns-clause-buffer : goal.returns-clause-buffer
 unfolding pack
-returns-clause-buffer c = λ blocks ssid copy offset piece few. fits-packed 4040 64 blocks ssid copy offset piece (omega arith) few
+returns-clause-buffer c = λ buffer ssid copy offset piece units few.
+    fits-packed (payload_size buffer.units) 64 buffer.blocks ssid copy offset piece (omega arith) few

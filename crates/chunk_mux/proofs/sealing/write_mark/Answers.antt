@@ -6,4 +6,4 @@ use Rattle.chunk_mux.proofs.sealing.write_mark.Goals as goal
 pub returns : goal.returns
 returns c =
     ap (λ (block : List ℕ). slice_set block 0 0) c.encode_mark.ensures.text
-    ∙ sym (closed_is_set (mark_text c.args.volid.0 c.args.mark c.args.count))
+    ∙ sym (closed_is_set (mark_text c.args.volid.0 c.args.mark c.args.count c.args.units))

@@ -37,7 +37,7 @@ returns-in-Ok-clause-read g c = λ told.
     let has = c.in_ok-label.ensures.found told c.args.number in
     let Has : List ℕ → Type 0 = λ (disk : List ℕ). HasLabel disk label in
     let found = c.in_ok-place.ensures.found told_mid (subst Has (sym first) has) in
-    let Places : List ℕ → Type 0 = λ (disk : List ℕ). AreDataPlaces disk label.volid.0 (found.0.mark + 1) found.0.places in
+    let Places : List ℕ → Type 0 = λ (disk : List ℕ). AreDataPlaces disk label.volid.0 label.units (found.0.mark + 1) found.0.places in
     let On : List ℕ → Type 0 = λ (disk : List ℕ). IsFileOn disk c.args.number label found.0 in
     let given = c.in-Ok.ensures.given told_here found.0 found.2 found.3 (subst Places (sym then) (places_of (mid.reads number) c.args.number label found.0 found.1)) in
     (label, (found.0, subst On first found.1, given))
@@ -56,7 +56,7 @@ returns-in-Err-Damaged-clause-read g c = λ told.
     let has = c.in_ok-label.ensures.found told c.args.number in
     let Has : List ℕ → Type 0 = λ (disk : List ℕ). HasLabel disk label in
     let found = c.in_ok-place.ensures.found told_mid (subst Has (sym first) has) in
-    let Places : List ℕ → Type 0 = λ (disk : List ℕ). AreDataPlaces disk label.volid.0 (found.0.mark + 1) found.0.places in
+    let Places : List ℕ → Type 0 = λ (disk : List ℕ). AreDataPlaces disk label.volid.0 label.units (found.0.mark + 1) found.0.places in
     let On : List ℕ → Type 0 = λ (disk : List ℕ). IsFileOn disk c.args.number label found.0 in
     let given = (rw c.in-Err-Damaged.field-0-is at c.in-Err-Damaged.ensures).given told_here found.0 found.2 found.3 (subst Places (sym then) (places_of (mid.reads number) c.args.number label found.0 found.1)) in
     inr (label, (found.0, subst On first found.1, refl, given))

@@ -1,8 +1,9 @@
-use Rattle.std.proofs.Common.{rules, Err, ◌≡◌, ◌∙◌, ◌+◌, ℕ, List, sym, ap, subst, arith}
+use Rattle.std.proofs.Common.{rules, Err, ◌≡◌, ◌∙◌, ◌+◌, ◌*◌, ℕ, List, take, sym, ap, subst, arith}
 use Rattle.std.specs.Prelude.{IsTrue}
 use Rattle.volume_block.specs.Chunks.{ChunkText}
+use Rattle.volume_block.specs.Layout.{data_size}
 use Rattle.volume_block.specs.Valid.{HoldsChunks}
-use Rattle.volume_store.specs.Committed.{block_at}
+use Rattle.volume_store.specs.Committed.{data_at}
 use Rattle.volume_store.specs.Writes.{cart_file}
 use Rattle.room_disk.proofs.Runs.{quiet_then}
 use Rattle.room_top.specs.Stages.{IsDataRead, JudgesPlaces}
@@ -13,23 +14,29 @@ pub returns-in_err-read_data-clause-given : goal.returns-in_err-read_data-clause
 returns-in_err-read_data-clause-given g c = λ told file mark count are.
     let number = cart_file c.args.cart.0 in
     let index = c.loop-index.index in
+    let volid = c.args.label.now.volid.0 in
+    let units = c.args.label.now.units in
     let old = g.D.Store.view c.args.disk.now in
     let here = g.D.Store.view c.loop-index.disk in
     let fault = c.in_err-read_data.field-0.0 in
+    let block = take (data_size units) c.read_data.new.block in
     let told_here : IsTrue here.tells = rw c.loop-index.invariant.1 told in
     let kept : here.reads number ≡ old.reads number = (c.loop-index.invariant.2 told).reads number in
-    let Disk : List ℕ → Type 0 = λ (disk : List ℕ). IsDataRead disk c.args.volid.0 (c.args.place.mark + 1 + index) c.read_data.new.block (Err fault) in
-    let Mark : ℕ → Type 0 = λ (place : ℕ). IsDataRead (old.reads number) c.args.volid.0 (place + 1 + index) c.read_data.new.block (Err fault) in
-    let fact : JudgesPlaces file fault =
-    data_given (old.reads number) c.args.volid.0 index c.loop-index.bytes.items c.read_data.new.block file fault
+    let Units : ℕ → Type 0 = λ (u : ℕ). IsDataRead (here.reads number) volid units (c.args.place.mark + 1 + u * index) block (Err fault) in
+    let Disk : List ℕ → Type 0 = λ (disk : List ℕ). IsDataRead disk volid units (c.args.place.mark + 1 + units * index) block (Err fault) in
+    let Mark : ℕ → Type 0 = λ (place : ℕ). IsDataRead (old.reads number) volid units (place + 1 + units * index) block (Err fault) in
+    let fact : JudgesPlaces units file fault =
+    data_given (old.reads number) volid units index c.loop-index.bytes.items block file fault
     (c.loop-index.invariant.3 told file mark count are) (omega (arith, c.loop-index-test.true, count)) are
-    (subst Mark mark (subst Disk kept (c.in_err-read_data.ensures.read told_here))) in
+    (subst Mark mark (subst Disk kept (subst Units c.from.ensures (c.in_err-read_data.ensures.read told_here)))) in
     search rules
 
 pub loop-index-preserved : goal.loop-index-preserved
 loop-index-preserved g c =
     let number = cart_file c.args.cart.0 in
     let index = c.loop-index.index in
+    let volid = c.args.label.now.volid.0 in
+    let units = c.args.label.now.units in
     let old = g.D.Store.view c.args.disk.now in
     let here = g.D.Store.view c.loop-index.disk in
     let new = g.D.Store.view c.read_data.new.disk in (
@@ -40,15 +47,17 @@ loop-index-preserved g c =
       λ told file mark count are.
           (let told_here : IsTrue here.tells = rw c.loop-index.invariant.1 told in
           let kept : here.reads number ≡ old.reads number = (c.loop-index.invariant.2 told).reads number in
-          let place : c.args.place.mark + 1 + index ≡ file.mark + 1 + index = ap (λ (m : ℕ). m + 1 + index) mark in
-          let block : c.read_data.new.block ≡ block_at (old.reads number) (file.mark + 1 + index) =
-          c.in_ok-read_data.ensures.read told_here ∙ ap (λ (bytes : List ℕ). block_at bytes (c.args.place.mark + 1 + index)) kept ∙ ap (block_at (old.reads number)) place in
-          let Held : List ℕ → Type 0 = λ (bytes : List ℕ). (chunks : List ChunkText) × HoldsChunks bytes c.args.volid.0 (c.args.place.mark + 1 + index) chunks in
-          let Number : ℕ → Type 0 = λ (n : ℕ). (chunks : List ChunkText) × HoldsChunks (block_at (old.reads number) (file.mark + 1 + index)) c.args.volid.0 n chunks in
-          read_more (old.reads number) c.args.volid.0 (file.mark + 1) index c.loop-index.bytes.items c.append_chunks.new.bytes.items file.places
+          let place : c.args.place.mark + 1 + units * index ≡ file.mark + 1 + units * index = ap (λ (m : ℕ). m + 1 + units * index) mark in
+          let block : take (data_size units) c.read_data.new.block ≡ data_at units (old.reads number) (file.mark + 1 + units * index) =
+          (rw c.from.ensures at (c.in_ok-read_data.ensures.read told_here)) ∙ ap (λ (bytes : List ℕ). data_at units bytes (c.args.place.mark + 1 + units * index)) kept ∙ ap (data_at units (old.reads number)) place in
+          let Held : List ℕ → Type 0 = λ (bytes : List ℕ). (chunks : List ChunkText) × HoldsChunks bytes volid (c.args.place.mark + 1 + units * index) units chunks in
+          let Number : ℕ → Type 0 = λ (n : ℕ). (chunks : List ChunkText) × HoldsChunks (data_at units (old.reads number) (file.mark + 1 + units * index)) volid n units chunks in
+          read_more (old.reads number) volid units (file.mark + 1) index c.loop-index.bytes.items c.append_chunks.new.bytes.items file.places
           (c.loop-index.invariant.3 told file mark count are) (omega (arith, c.loop-index-test.true, count)) are
-          (subst Number place (subst Held block c.in_ok-read_data.ensures.holds))
+          (subst Number place (subst Held block (rw c.from.ensures at c.in_ok-read_data.ensures.holds)))
           (λ chunks held.
-          let Block : List ℕ → Type 0 = λ (bytes : List ℕ). HoldsChunks bytes c.args.volid.0 (file.mark + 1 + index) chunks in
-          c.in-Ok-append_chunks.ensures.appended c.args.volid.0 (file.mark + 1 + index) chunks (subst Block (sym block) held))),
+          let Block : List ℕ → Type 0 = λ (bytes : List ℕ). HoldsChunks bytes volid (file.mark + 1 + units * index) units chunks in
+          let Slice : List ℕ → Type 0 = λ (bytes : List ℕ). HoldsChunks (take (data_size units) bytes) volid (file.mark + 1 + units * index) units chunks in
+          c.in-Ok-append_chunks.ensures.appended volid (file.mark + 1 + units * index) units chunks (subst Slice (sym c.deref.ensures.value) (subst Block (sym block) held)))),
+      c.loop-index.invariant.4,
     )

@@ -1,73 +1,58 @@
-use Rattle.std.proofs.Common.{◌≡◌, ◌∙◌, ℕ, [], List, length, sym, ap, subst, arith}
-use Rattle.volume_block.specs.Chunks.{ChunkText, all_chunks, JoinFrom}
-use Rattle.volume_block.specs.Region.{IsSealed}
-use Rattle.chunk_mux.specs.Packing.{pack}
-use Rattle.room_top.specs.Raw.{JoinTo}
-use Rattle.room_top.specs.Put.{site_number, site_mark, site_volid}
-use Rattle.room_top.proofs.PutRuns.{has_room, some_blocks, pack_joins, pack_count}
+use Rattle.std.proofs.Common.{◌≡◌, ◌∙◌, ℕ, length, sym, ap, subst, arith}
+use Rattle.chunk_mux.specs.Packing.{empty, Fits}
+use Rattle.volume_block.specs.Layout.{IsUnits}
+use Rattle.volume_block.proofs.Forms.{units_range}
+use Rattle.room_top.specs.Put.{site_units}
+use Rattle.room_top.proofs.PutRuns.{has_room, some_blocks, fits_empty, site_has_units, is_file_of, sealed_for}
 use Rattle.room_top.proofs.store.store_file.Goals as goal
 
 pub seal-region-requires-clause-some : goal.seal-region-requires-clause-some
 seal-region-requires-clause-some g c =
+    let site = c.args.site.now in
     let bytes = c.args.bytes.now in
-    let number = c.number-number.result in
-    let are : c.push.new.self ≡ pack [] number 1 0 bytes =
-    c.push.ensures.blocks ∙ ap (λ (blocks : List (List ChunkText)). pack blocks number 1 0 bytes) c.in-Ok.ensures in
-    omega (arith, ap length are, pack_count number 1 0 bytes, some_blocks (length bytes) c.requires.size.0)
+    let file = is_file_of c.args.cart.0 site bytes c.in-Ok.buffer c.push.new.self c.units.result c.number-number.result c.requires.ready c.units.ensures c.number-number.ensures c.in-Ok.ensures c.push.ensures.blocks in
+    let some = (units_range (site_units site) (site_has_units c.args.cart.0 (length bytes) site c.requires.ready)).0 in
+    omega (arith, file.counted, some_blocks (site_units site) (length bytes) some c.requires.size.0)
+
+pub store_region-requires-clause-sealed : goal.store_region-requires-clause-sealed
+store_region-requires-clause-sealed g c =
+    let site = c.args.site.now in
+    let bytes = c.args.bytes.now in
+    let buffer = c.push.new.self in
+    let file = is_file_of c.args.cart.0 site bytes c.in-Ok.buffer buffer c.units.result c.number-number.result c.requires.ready c.units.ensures c.number-number.ensures c.in-Ok.ensures c.push.ensures.blocks in
+    (buffer.blocks, sym c.blocks-count.ensures.count,
+    sealed_for site bytes buffer c.volid.result.0 c.mark.result c.seal-region.result.now file c.volid.ensures c.mark.ensures c.seal-region.ensures.sealed)
 
 pub store_region-requires-clause-ready : goal.store_region-requires-clause-ready
 store_region-requires-clause-ready g c =
+    let site = c.args.site.now in
     let bytes = c.args.bytes.now in
-    let number = c.number-number.result in
-    let are : c.push.new.self ≡ pack [] number 1 0 bytes =
-    c.push.ensures.blocks ∙ ap (λ (blocks : List (List ChunkText)). pack blocks number 1 0 bytes) c.in-Ok.ensures in
-    has_room c.args.cart.0 (length bytes) c.blocks-count.result c.args.site.now c.requires.ready
-    (c.blocks-count.ensures.count ∙ ap length are ∙ pack_count number 1 0 bytes)
+    let file = is_file_of c.args.cart.0 site bytes c.in-Ok.buffer c.push.new.self c.units.result c.number-number.result c.requires.ready c.units.ensures c.number-number.ensures c.in-Ok.ensures c.push.ensures.blocks in
+    has_room c.args.cart.0 (length bytes) c.blocks-count.result site c.requires.ready (c.blocks-count.ensures.count ∙ file.counted)
 
 pub returns-in-Ok-store_region-clause-stored : goal.returns-in-Ok-store_region-clause-stored
-returns-in-Ok-store_region-clause-stored g c = λ told clock site.
+returns-in-Ok-store_region-clause-stored g c = λ told clock at.
+    let site = c.args.site.now in
     let bytes = c.args.bytes.now in
-    let number = c.number-number.result in
-    let blocks = c.push.new.self in
-    let are : blocks ≡ pack [] number 1 0 bytes =
-    c.push.ensures.blocks ∙ ap (λ (some : List (List ChunkText)). pack some number 1 0 bytes) c.in-Ok.ensures in
-    let J : List (List ChunkText) → Type 0 = λ (some : List (List ChunkText)). JoinFrom number 1 0 (all_chunks some) bytes in
-    let N : ℕ → Type 0 = λ (n : ℕ). JoinTo n blocks bytes in
-    let joins : JoinTo (site_number c.args.site.now) blocks bytes = subst N c.number-number.ensures (subst J (sym are) (pack_joins number 1 0 bytes)) in
-    let V : ℕ → Type 0 = λ (v : ℕ). IsSealed v c.mark.result blocks c.seal-region.result.now in
-    let M : ℕ → Type 0 = λ (m : ℕ). IsSealed (site_volid c.args.site.now) m blocks c.seal-region.result.now in
-    let sealed : IsSealed (site_volid c.args.site.now) (site_mark c.args.site.now) blocks c.seal-region.result.now =
-    subst M c.mark.ensures (subst V c.volid.ensures c.seal-region.ensures.sealed) in
-    c.in-Ok-store_region.ensures.stored told clock blocks bytes sealed joins site
+    let buffer = c.push.new.self in
+    let file = is_file_of c.args.cart.0 site bytes c.in-Ok.buffer buffer c.units.result c.number-number.result c.requires.ready c.units.ensures c.number-number.ensures c.in-Ok.ensures c.push.ensures.blocks in
+    c.in-Ok-store_region.ensures.stored told clock buffer.blocks bytes
+    (sealed_for site bytes buffer c.volid.result.0 c.mark.result c.seal-region.result.now file c.volid.ensures c.mark.ensures c.seal-region.ensures.sealed) file.joined at
 
 pub returns-in-Ok-store_region-clause-moments : goal.returns-in-Ok-store_region-clause-moments
-returns-in-Ok-store_region-clause-moments g c = λ told clock site settled.
+returns-in-Ok-store_region-clause-moments g c = λ told clock at settled.
+    let site = c.args.site.now in
     let bytes = c.args.bytes.now in
-    let number = c.number-number.result in
-    let blocks = c.push.new.self in
-    let are : blocks ≡ pack [] number 1 0 bytes =
-    c.push.ensures.blocks ∙ ap (λ (some : List (List ChunkText)). pack some number 1 0 bytes) c.in-Ok.ensures in
-    let J : List (List ChunkText) → Type 0 = λ (some : List (List ChunkText)). JoinFrom number 1 0 (all_chunks some) bytes in
-    let N : ℕ → Type 0 = λ (n : ℕ). JoinTo n blocks bytes in
-    let joins : JoinTo (site_number c.args.site.now) blocks bytes = subst N c.number-number.ensures (subst J (sym are) (pack_joins number 1 0 bytes)) in
-    let V : ℕ → Type 0 = λ (v : ℕ). IsSealed v c.mark.result blocks c.seal-region.result.now in
-    let M : ℕ → Type 0 = λ (m : ℕ). IsSealed (site_volid c.args.site.now) m blocks c.seal-region.result.now in
-    let sealed : IsSealed (site_volid c.args.site.now) (site_mark c.args.site.now) blocks c.seal-region.result.now =
-    subst M c.mark.ensures (subst V c.volid.ensures c.seal-region.ensures.sealed) in
-    c.in-Ok-store_region.ensures.moments told clock blocks bytes sealed joins site settled
+    let buffer = c.push.new.self in
+    let file = is_file_of c.args.cart.0 site bytes c.in-Ok.buffer buffer c.units.result c.number-number.result c.requires.ready c.units.ensures c.number-number.ensures c.in-Ok.ensures c.push.ensures.blocks in
+    c.in-Ok-store_region.ensures.moments told clock buffer.blocks bytes
+    (sealed_for site bytes buffer c.volid.result.0 c.mark.result c.seal-region.result.now file c.volid.ensures c.mark.ensures c.seal-region.ensures.sealed) file.joined at settled
 
 pub returns-clause-moments : goal.returns-clause-moments
-returns-clause-moments g c = λ told clock site settled.
+returns-clause-moments g c = λ told clock at settled.
+    let site = c.args.site.now in
     let bytes = c.args.bytes.now in
-    let number = c.number-number.result in
-    let blocks = c.push.new.self in
-    let are : blocks ≡ pack [] number 1 0 bytes =
-    c.push.ensures.blocks ∙ ap (λ (some : List (List ChunkText)). pack some number 1 0 bytes) c.in-Ok.ensures in
-    let J : List (List ChunkText) → Type 0 = λ (some : List (List ChunkText)). JoinFrom number 1 0 (all_chunks some) bytes in
-    let N : ℕ → Type 0 = λ (n : ℕ). JoinTo n blocks bytes in
-    let joins : JoinTo (site_number c.args.site.now) blocks bytes = subst N c.number-number.ensures (subst J (sym are) (pack_joins number 1 0 bytes)) in
-    let V : ℕ → Type 0 = λ (v : ℕ). IsSealed v c.mark.result blocks c.seal-region.result.now in
-    let M : ℕ → Type 0 = λ (m : ℕ). IsSealed (site_volid c.args.site.now) m blocks c.seal-region.result.now in
-    let sealed : IsSealed (site_volid c.args.site.now) (site_mark c.args.site.now) blocks c.seal-region.result.now =
-    subst M c.mark.ensures (subst V c.volid.ensures c.seal-region.ensures.sealed) in
-    c.in-Err.ensures.moments told clock blocks bytes sealed joins site settled
+    let buffer = c.push.new.self in
+    let file = is_file_of c.args.cart.0 site bytes c.in-Ok.buffer buffer c.units.result c.number-number.result c.requires.ready c.units.ensures c.number-number.ensures c.in-Ok.ensures c.push.ensures.blocks in
+    c.in-Err.ensures.moments told clock buffer.blocks bytes
+    (sealed_for site bytes buffer c.volid.result.0 c.mark.result c.seal-region.result.now file c.volid.ensures c.mark.ensures c.seal-region.ensures.sealed) file.joined at settled

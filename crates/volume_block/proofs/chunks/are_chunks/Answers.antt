@@ -10,7 +10,7 @@ returns-in_default c =
     let rest = c.loop-rest.rest.now in
     let some : 1 ≤ length rest = search rules in
     let none : (chunk : ChunkText) (tail : List ℕ) → IsChunk chunk → rest ≢ chunk_text chunk ++ tail = c.in_default.ensures in
-    (λ no. absurd (cc), λ found. absurd (no_chunks c.args.payload.now rest none some c.loop-rest.invariant.split found.0 found.1))
+    λ units fits. (λ no. absurd (cc), λ found. absurd (no_chunks c.args.payload.now rest none some c.loop-rest.invariant.split units found.0 found.1))
 
 pub loop-rest-preserved : goal.loop-rest-preserved
 loop-rest-preserved c =
@@ -25,7 +25,8 @@ loop-rest-preserved c =
 pub returns : goal.returns
 returns c =
     let payload = c.args.payload.now in
-    let ended : length c.loop-rest.rest.now ≡ 0 = search rules in (
-      λ yes. let some : 1 ≤ length payload = search rules in all_chunks payload c.loop-rest.rest.now c.requires some ended c.loop-rest.invariant.split,
-      λ found. let some : length payload ≢ 0 = λ none. no_chunks_in_none payload none found.0 found.1 in search rules,
+    let ended : length c.loop-rest.rest.now ≡ 0 = search rules in
+    λ units fits. (
+      λ yes. let some : 1 ≤ length payload = search rules in all_chunks units payload c.loop-rest.rest.now fits some ended c.loop-rest.invariant.split,
+      λ found. let some : length payload ≢ 0 = λ none. no_chunks_in_none payload none units found.0 found.1 in search rules,
     )

@@ -1,12 +1,23 @@
 use Rattle.std.proofs.Common.{◌≡◌, ℕ, ◌<◌, ◌^◌, List, Ok, sym, ap, subst, ◌∙◌, arith, rules}
 use Rattle.std.proofs.lemmas.List.{take_rest}
 use Rattle.byteorder.specs.Endian.{big_number}
-use Rattle.volume_block.specs.Why.{kind_in, volid_in, payload_in, IsLabelIn, Why}
+use Rattle.volume_block.specs.Why.{kind_in, units_in, volid_in, payload_in, IsLabelIn, Why}
 use Rattle.volume_block.specs.declared.label.Label.{Label}
 use Rattle.volume_block.specs.declared.block.Block.TheVariants as kinds
 use Rattle.volume_block.specs.declared.block.Reason.TheVariants as reasons
 use Rattle.volume_block.proofs.Blocks.{right_part, says_here, same_label, no_label, label_parts, valid_label}
 use Rattle.volume_block.proofs.decode.decode_label.Goals as goal
+
+-- a label in the units and the payload that are read
+read_label_in : (units told volid : ℕ) (payload text : List ℕ) (label : Label) → told ≡ units → text ≡ payload
+    → IsLabelIn told volid text label → IsLabelIn units volid payload label
+read_label_in units told volid payload text label same texts is =
+    subst (λ (t : List ℕ). IsLabelIn units volid t label) texts (subst (λ (u : ℕ). IsLabelIn u volid text label) same is)
+
+no_label_in : (units told volid : ℕ) (payload text : List ℕ) → told ≡ units → text ≡ payload
+    → ((label : Label) → ¬ IsLabelIn told volid text label) → (label : Label) → ¬ IsLabelIn units volid payload label
+no_label_in units told volid payload text same texts none label is =
+    none label (read_label_in told units volid text payload label (sym same) (sym texts) is)
 
 -- the volid that is read
 abbrev volid_read : (bytes : List ℕ) (volid : ℕ) → Type 0
@@ -18,38 +29,40 @@ returns-in-Some-clause-only c = λ label valid.
     let read : volid_read bytes c.read_u64.result = c.read_u64.ensures ∙ ap (big_number 8) (take_rest bytes 8) in
     absurd (c.in-Some.ensures.wrong (right_part c.in-Some.why bytes c.read_u64.result 0 (kinds.Label label) (label_parts bytes c.read_u64.result label read valid)))
 
-pub payload_of-requires-clause-padded : goal.payload_of-requires-clause-padded
-payload_of-requires-clause-padded c = c.in_default.ensures reasons.Length (omega arith)
+pub payload_of-requires : goal.payload_of-requires
+payload_of-requires c = (c.in_default.ensures reasons.Length (omega arith)).1.0
 
-pub label_in-requires : goal.label_in-requires
-label_in-requires c = (c.in_default.ensures reasons.Volid (omega arith)).1
+pub label_in-requires-clause-units : goal.label_in-requires-clause-units
+label_in-requires-clause-units c = rw c.units_in.ensures ((c.in_default.ensures reasons.Form (omega arith)).0)
+
+pub label_in-requires-clause-volume : goal.label_in-requires-clause-volume
+label_in-requires-clause-volume c = (c.in_default.ensures reasons.Volid (omega arith)).1
 
 pub returns-in-Some-label_in-clause-decoded : goal.returns-in-Some-label_in-clause-decoded
 returns-in-Some-label_in-clause-decoded c =
     let bytes = c.args.bytes.now in
     let volid-fits : c.read_u64.result < 2 ^ 64 = search rules in
-    let Is : List ℕ → Type 0 = λ (t : List ℕ). IsLabelIn c.read_u64.result t c.in-Some-label_in.label in
-    valid_label bytes c.read_u64.result c.in-Some-label_in.label c.requires (λ i. omega (arith, c.type_inv.bytes i)) volid-fits
-    c.in_default.ensures (subst Is c.payload_of.ensures c.in-Some-label_in.ensures)
+    let label = c.in-Some-label_in.label in
+    valid_label bytes c.read_u64.result label (λ i. omega (arith, c.type_inv.bytes i)) volid-fits c.in_default.ensures
+    (read_label_in (units_in bytes) _ c.read_u64.result (payload_in bytes) _ label c.units_in.ensures c.payload_of.ensures c.in-Some-label_in.ensures)
 
 pub returns-in-Some-label_in-clause-only : goal.returns-in-Some-label_in-clause-only
 returns-in-Some-label_in-clause-only c = λ label valid.
     let bytes = c.args.bytes.now in
     let read : volid_read bytes c.read_u64.result = c.read_u64.ensures ∙ ap (big_number 8) (take_rest bytes 8) in
-    let Is : List ℕ → Type 0 = λ (t : List ℕ). IsLabelIn c.read_u64.result t c.in-Some-label_in.label in
-    let one = subst Is c.payload_of.ensures c.in-Some-label_in.ensures in
+    let found = c.in-Some-label_in.label in
+    let one = read_label_in (units_in bytes) _ c.read_u64.result (payload_in bytes) _ found c.units_in.ensures c.payload_of.ensures c.in-Some-label_in.ensures in
     let other = says_here bytes c.read_u64.result 0 (kinds.Label label) (label_parts bytes c.read_u64.result label read valid) in
-    ap Ok (same_label c.read_u64.result (payload_in bytes) c.in-Some-label_in.label label one other.1)
+    ap Ok (same_label (units_in bytes) c.read_u64.result (payload_in bytes) found label one other.1)
 
 pub returns-in-None-clause-decoded : goal.returns-in-None-clause-decoded
 returns-in-None-clause-decoded c =
     let bytes = c.args.bytes.now in
     let read : volid_read bytes c.read_u64.result = c.read_u64.ensures ∙ ap (big_number 8) (take_rest bytes 8) in
-    let None : List ℕ → Type 0 = λ (t : List ℕ). (label : Label) → ¬ IsLabelIn c.read_u64.result t label in
-    let none = subst None c.payload_of.ensures c.in-None.ensures in
+    let none = no_label_in (units_in bytes) _ c.read_u64.result (payload_in bytes) _ c.units_in.ensures c.payload_of.ensures c.in-None.ensures in
     let At : ℕ → Type 0 = λ (v : ℕ). Why bytes v 0 reasons.Payload in
     subst At read (record {
-      wrong = no_label (kind_in bytes) c.read_u64.result (payload_in bytes) (c.in_default.ensures reasons.Kind (omega arith)) none;
+      wrong = no_label (kind_in bytes) (units_in bytes) c.read_u64.result (payload_in bytes) (c.in_default.ensures reasons.Kind (omega arith)) none;
       first = c.in_default.ensures;
     })
 
@@ -57,6 +70,5 @@ pub returns-in-None-clause-only : goal.returns-in-None-clause-only
 returns-in-None-clause-only c = λ label valid.
     let bytes = c.args.bytes.now in
     let read : volid_read bytes c.read_u64.result = c.read_u64.ensures ∙ ap (big_number 8) (take_rest bytes 8) in
-    let Is : List ℕ → Type 0 = λ (t : List ℕ). IsLabelIn c.read_u64.result t label in
     let says = says_here bytes c.read_u64.result 0 (kinds.Label label) (label_parts bytes c.read_u64.result label read valid) in
-    absurd (c.in-None.ensures label (subst Is (sym c.payload_of.ensures) says.1))
+    absurd (no_label_in (units_in bytes) _ c.read_u64.result (payload_in bytes) _ c.units_in.ensures c.payload_of.ensures c.in-None.ensures label says.1)

@@ -1,4 +1,4 @@
-use Rattle.std.proofs.Common.{ℕ, List, [], ◌∷◌, refl, rules}
+use Rattle.std.proofs.Common.{ℕ, List, [], ◌∷◌, inl, refl, rules}
 use Rattle.std.proofs.lemmas.Str.{IsUtf8-from_ascii}
 use Rattle.std.proofs.lemmas.List.Elements.{All-from_recursion}
 use Rattle.room_base.specs.Text.{IsPrintable, IsName}
@@ -16,6 +16,7 @@ unfolding raw
 returns c = record {
   volid = search rules;
   cart = search rules;
+  units = inl refl;
   capacity = search rules;
   made = search rules;
   pool_length = search rules;

@@ -22,8 +22,8 @@ returns-in-Closed-clause-walked g c = λ told.
     let found = rw c.in-Closed.is at (c.in_ok-read_mark.ensures.found told_here) in
     let inside : 4096 * walk.end < length (start.reads file) =
     omega (arith, c.loop-walk-test.true, c.block_count-blocks.ensures.no_more, c.in_ok-len.ensures.length told, ap length same) in
-    let P : List ℕ → Type 0 = λ bytes. WalksOver bytes c.args.volid.0 c.args.wanted walk in
-    subst P same (ends_closed (start.reads file) c.args.volid.0 c.args.wanted walk (c.loop-walk.invariant.4 told_start) inside
+    let P : List ℕ → Type 0 = λ bytes. WalksOver bytes c.args.volid.0 c.args.units c.args.wanted walk in
+    subst P same (ends_closed (start.reads file) c.args.volid.0 c.args.units c.args.wanted walk (c.loop-walk.invariant.4 told_start) inside
     (λ opens. found.1 (ap (λ bytes. get_or (block_at bytes walk.end) 0 0) kept ∙ opens)))
 
 pub returns-in-Bad-clause-walked : goal.returns-in-Bad-clause-walked
@@ -38,9 +38,9 @@ returns-in-Bad-clause-walked g c = λ told.
     let same : start.reads file ≡ old.reads file = (c.in_ok-len.ensures.quiet told).reads file in
     let kept : here.reads file ≡ start.reads file = (c.loop-walk.invariant.2 told_start).reads file in
     let found = rw c.in-Bad.is at (c.in_ok-read_mark.ensures.found told_here) in
-    let P : List ℕ → Type 0 = λ bytes. StopsAt bytes c.args.volid.0 walk.end in
-    let Bad : List ℕ → Type 0 = λ bytes. FindsMark (block_at bytes walk.end) c.args.volid.0 walk.end places.Bad in
-    subst P same (ends_bad_or_short (start.reads file) c.args.volid.0 c.args.wanted walk (c.loop-walk.invariant.4 told_start) (subst Bad kept found))
+    let P : List ℕ → Type 0 = λ bytes. StopsAt bytes c.args.volid.0 c.args.units walk.end in
+    let Bad : List ℕ → Type 0 = λ bytes. FindsMark (block_at bytes walk.end) c.args.volid.0 c.args.units walk.end places.Bad in
+    subst P same (ends_bad_or_short (start.reads file) c.args.volid.0 c.args.units c.args.wanted walk (c.loop-walk.invariant.4 told_start) (subst Bad kept found))
 
 pub loop-walk-preserved : goal.loop-walk-preserved
 loop-walk-preserved g c =
@@ -55,13 +55,13 @@ loop-walk-preserved g c =
       c.in_ok-read_mark.ensures.tells ∙ c.loop-walk.invariant.1,
       λ told. (let told_here : IsTrue here.tells = rw c.loop-walk.invariant.1 told in
           quiet_then start here new (c.loop-walk.invariant.2 told) (c.in_ok-read_mark.ensures.quiet told_here)),
-      range_past c.in-Open.count walk c.past-walk.result c.args.wanted inside c.loop-walk.invariant.3 count
+      range_past c.args.units c.in-Open.count walk c.past-walk.result c.args.wanted inside c.requires.units c.loop-walk.invariant.3 count
           c.past-walk.ensures.files c.past-walk.ensures.end c.past-walk.ensures.this c.past-walk.ensures.other,
       λ told. (let told_here : IsTrue here.tells = rw c.loop-walk.invariant.1 told in
           let kept : here.reads file ≡ start.reads file = (c.loop-walk.invariant.2 told).reads file in
           let found = rw c.in-Open.is at (c.in_ok-read_mark.ensures.found told_here) in
-          let Found : List ℕ → Type 0 = λ bytes. FindsMark (block_at bytes walk.end) c.args.volid.0 walk.end (places.Open c.in-Open.count) in
-          goes_on (start.reads file) c.args.volid.0 c.args.wanted c.in-Open.count walk c.past-walk.result (c.loop-walk.invariant.4 told)
+          let Found : List ℕ → Type 0 = λ bytes. FindsMark (block_at bytes walk.end) c.args.volid.0 c.args.units walk.end (places.Open c.in-Open.count) in
+          goes_on (start.reads file) c.args.volid.0 c.args.units c.args.wanted c.in-Open.count walk c.past-walk.result (c.loop-walk.invariant.4 told)
           (subst Found kept found) c.past-walk.ensures.files c.past-walk.ensures.end c.past-walk.ensures.this c.past-walk.ensures.other),
     )
 
@@ -75,5 +75,5 @@ returns-clause-walked g c = λ told.
     let same : start.reads file ≡ old.reads file = (c.in_ok-len.ensures.quiet told).reads file in
     let short : length (start.reads file) ≤ 4096 * walk.end =
     omega (arith, c.loop-walk-test.false, c.block_count-blocks.ensures.covers, c.in_ok-len.ensures.length told, ap length same) in
-    let P : List ℕ → Type 0 = λ bytes. StopsAt bytes c.args.volid.0 walk.end in
-    subst P same (ends_short (start.reads file) c.args.volid.0 c.args.wanted walk (c.loop-walk.invariant.4 told_start) short)
+    let P : List ℕ → Type 0 = λ bytes. StopsAt bytes c.args.volid.0 c.args.units walk.end in
+    subst P same (ends_short (start.reads file) c.args.volid.0 c.args.units c.args.wanted walk (c.loop-walk.invariant.4 told_start) short)

@@ -13,4 +13,4 @@ returns-clause-read g c = λ told.
     let room = length c.args.into.now in
     IfOk-weaker c.read_from.result (λ count. take count into ≡ take room (drop (4096 * first) bytes))
     (λ count. HoldsBlocks bytes first room (take count into))
-    (λ count is k inside. block_of_blocks first room k bytes (take count into) is inside) (c.read_from.ensures.read told)
+    (λ count is size k inside. block_of_blocks first room size k bytes (take count into) is inside) (c.read_from.ensures.read told)

@@ -14,7 +14,7 @@ returns-clause-writes g c =
     let at = 4096 * volume.mark in
     let rest = c.split_at.result.1.now in
     let opens : opened region ≡ 0x46 ∷ rest =
-    opened_drop region (sealed_some _ _ _ region c.requires.sealed.2) ∙ ap (λ (bytes : List ℕ). 0x46 ∷ bytes) (sym c.split_at.ensures.back) in
+    opened_drop region (sealed_some _ _ _ _ region c.requires.sealed.2) ∙ ap (λ (bytes : List ℕ). 0x46 ∷ bytes) (sym c.split_at.ensures.back) in
     writes_weaker (Overlays at (0x46 ∷ rest)) (GatedTorn at 0x46 rest) c.in_ok-write_gated.ensures
     (adds_file volume.label volume.mark region rest opens) (may_add_file volume.label volume.mark region rest opens)
 
@@ -25,6 +25,6 @@ returns-in_err-write_gated-clause-writes g c =
     let at = 4096 * volume.mark in
     let rest = c.split_at.result.1.now in
     let opens : opened region ≡ 0x46 ∷ rest =
-    opened_drop region (sealed_some _ _ _ region c.requires.sealed.2) ∙ ap (λ (bytes : List ℕ). 0x46 ∷ bytes) (sym c.split_at.ensures.back) in
+    opened_drop region (sealed_some _ _ _ _ region c.requires.sealed.2) ∙ ap (λ (bytes : List ℕ). 0x46 ∷ bytes) (sym c.split_at.ensures.back) in
     writes_failed (Overlays at (0x46 ∷ rest)) (GatedTorn at 0x46 rest) (err_from_is_err_and c.from_residual.result c.from_residual.ensures.1).1 (writes_change c.in_err-write_gated.ensures)
     (may_add_file volume.label volume.mark region rest opens)
