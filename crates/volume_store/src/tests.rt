@@ -8,8 +8,8 @@ use room_disk::{MemStore, Store, write_gated};
 use std::alloc::Global;
 use std::test::*;
 use volume_block::{
-    BLOCK_SIZE, Block, Label, MAX_BLOCK_SIZE, PAYLOAD_START, Reason, encode_mark,
-    seal_data, write_chunk_head,
+    BLOCK_SIZE, Block, Label, MAX_BLOCK_SIZE, PAYLOAD_START, Reason, encode_mark, seal_data,
+    write_chunk_head,
 };
 
 const VOLID: Volid = Volid(7);
@@ -21,9 +21,9 @@ const FILE: u32 = 2;
 
 // The name `Raw` with the zeros behind it.
 const POOL: [u8; 64] = [
-    b'R', b'a', b'w', 0, 0, 0, 0, 0, 0, 0, 0, 0, 0, 0, 0, 0, 0, 0, 0, 0, 0, 0, 0, 0, 0, 0, 0, 0, 0, 0,
+    b'R', b'a', b'w', 0, 0, 0, 0, 0, 0, 0, 0, 0, 0, 0, 0, 0, 0, 0, 0, 0, 0, 0, 0, 0, 0, 0, 0, 0, 0,
     0, 0, 0, 0, 0, 0, 0, 0, 0, 0, 0, 0, 0, 0, 0, 0, 0, 0, 0, 0, 0, 0, 0, 0, 0, 0, 0, 0, 0, 0, 0, 0,
-    0, 0,
+    0, 0, 0,
 ];
 
 fn label_of(units: u32) -> Label
@@ -48,7 +48,13 @@ fn fill_block(number: u64, block: &mut [u8])
     requires size { (4096 ≤ length block.old) × (length block.old ≤ 65536) }
 {
     let size = block.len() as u32;
-    write_chunk_head(Ssid(1), CopyNo(1), 0, size - 80, &mut block[PAYLOAD_START..]);
+    write_chunk_head(
+        Ssid(1),
+        CopyNo(1),
+        0,
+        size - 80,
+        &mut block[PAYLOAD_START..],
+    );
     seal_data(VOLID, number, size - 56, block);
 }
 
@@ -61,7 +67,10 @@ fn fill_region(units: u32, region: &mut [u8])
     let size = BLOCK_SIZE * units as usize;
     encode_mark(VOLID, 1, 2, units, &mut region[..BLOCK_SIZE]);
     fill_block(2, &mut region[BLOCK_SIZE..BLOCK_SIZE + size]);
-    fill_block(2 + u64::from(units), &mut region[BLOCK_SIZE + size..BLOCK_SIZE + 2 * size]);
+    fill_block(
+        2 + u64::from(units),
+        &mut region[BLOCK_SIZE + size..BLOCK_SIZE + 2 * size],
+    );
 }
 
 // Writes the region as a commit does.

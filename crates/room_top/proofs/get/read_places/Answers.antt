@@ -1,4 +1,5 @@
-use Rattle.std.proofs.Common.{rules, Err, ◌≡◌, ◌∙◌, ◌+◌, ◌*◌, ℕ, List, take, sym, ap, subst, arith}
+use Rattle.std.proofs.Common.{rules, Err, ◌≡◌, ◌∙◌, ◌+◌, ◌*◌, ◌++◌, ℕ, List, length, take, drop, sym, ap, subst, arith}
+use Rattle.std.proofs.Math.Seq.{take-append_seam}
 use Rattle.std.specs.Prelude.{IsTrue}
 use Rattle.volume_block.specs.Chunks.{ChunkText}
 use Rattle.volume_block.specs.Layout.{data_size}
@@ -58,6 +59,10 @@ loop-index-preserved g c =
           (λ chunks held.
           let Block : List ℕ → Type 0 = λ (bytes : List ℕ). HoldsChunks bytes volid (file.mark + 1 + units * index) units chunks in
           let Slice : List ℕ → Type 0 = λ (bytes : List ℕ). HoldsChunks (take (data_size units) bytes) volid (file.mark + 1 + units * index) units chunks in
-          c.in-Ok-append_chunks.ensures.appended volid (file.mark + 1 + units * index) units chunks (subst Slice (sym c.deref.ensures.value) (subst Block (sym block) held)))),
+          let rest : List ℕ = drop (length c.read_data.new.block) c.loop-index.block.items in
+          let whole : c.loop-index.block.len ≡ length c.read_data.new.block = search rules in
+          let lent : c.deref.result.now ≡ c.read_data.new.block =
+          c.deref.ensures.value ∙ ap (λ (n : ℕ). take n (c.read_data.new.block ++ rest)) whole ∙ take-append_seam c.read_data.new.block rest in
+          c.in-Ok-append_chunks.ensures.appended volid (file.mark + 1 + units * index) units chunks (subst Slice (sym lent) (subst Block (sym block) held)))),
       c.loop-index.invariant.4,
     )
