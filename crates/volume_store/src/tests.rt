@@ -73,15 +73,23 @@ fn fill_region(units: u32, region: &mut [u8])
     );
 }
 
-// Writes the region as a commit does.
+// Writes the region as a commit does, from these bytes.
+fn is_region_written(disk: &mut MemStore, units: u32, bytes: &mut [u8]) -> bool
+    requires units { IsUnits units }
+    requires range { (1 ≤ units) × (units ≤ 16) }
+    requires room { length bytes.old ≡ 139264 }
+{
+    let region = &mut bytes[..8192 + 8192 * units as usize];
+    fill_region(units, region);
+    write_gated(disk, FILE, 4096, b'F', &region[1..]).is_ok()
+}
+
 fn is_added(disk: &mut MemStore, units: u32) -> bool
     requires units { IsUnits units }
     requires range { (1 ≤ units) × (units ≤ 16) }
 {
     let mut bytes = [0u8; 139_264];
-    let region = &mut bytes[..8192 + 8192 * units as usize];
-    fill_region(units, region);
-    write_gated(disk, FILE, 4096, b'F', &region[1..]).is_ok()
+    is_region_written(disk, units, &mut bytes)
 }
 
 // Writes a cartridge of so many units with one file of two data blocks.
