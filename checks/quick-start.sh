@@ -63,8 +63,20 @@ refuses empty 11 "room: refused 1 Malformed field=input" "a room" put 2
 refuses file 2 "room: usage "
 refuses file 2 "room: usage 0" "a room" get 1 0
 refuses file 2 "room: usage 257" "a room" put 257
-refuses file 6 "room: disk fault" "no such room" put 1
+refuses file 6 "$(printf 'room: disk fault\nroom: no folder')" "no such room" put 1
 [ -e "no such room" ] && fail "a folder was made"
+refuses file 2 "room: usage pat" "no such room" pat 1
+
+# While another program has the folder's lock: one that reads keeps out a put alone, one that writes both.
+in_use=$(printf 'room: disk fault\nroom: folder in use')
+exec 3<"a room"
+flock -s 3 || fail "flock failed"
+refuses file 6 "$in_use" "a room" put 1
+"$top/bin/room" "a room" get 1 1 >got 2>err || fail "a get beside one that reads ended with $?"
+cmp -s file got || fail "a get beside one that reads gives other bytes"
+flock -x 3 || fail "flock failed"
+refuses file 6 "$in_use" "a room" get 1 1
+exec 3<&-
 "$top/bin/room" --help | grep -q "usage: room FOLDER COMMAND" || fail "no help"
 [ "$("$top/bin/room" --version)" = "room 0.1.0" ] || fail "no version"
 echo "quick-start: 200,000 bytes kept twice and read back, and $refusals refusals as they are to be"

@@ -2,6 +2,7 @@ ghost use Rattle.std.specs.Prelude.{◌≡◌, ◌+◌, ◌<◌, ◌≤◌, ℕ,
 ghost use Rattle.std.specs.Prelude.{OnOk};
 ghost use Rattle.std.specs.Prelude.{◌↔◌, IsErr, length, slice_set};
 ghost use Rattle.room_base.specs.Calls.{FailsNext};
+ghost use Rattle.room_disk.specs.Blank.{IsBlank};
 ghost use Rattle.room_disk.specs.Disk.{Settled, Quiet};
 ghost use Rattle.room_disk.specs.Folder.{file_name, IsAbsent};
 ghost use Rattle.room_disk.specs.Memory.{told_store};
@@ -37,7 +38,11 @@ pub struct MemHandle {
 
 impl MemFolder {
     /// An empty folder. `failing` holds the numbers of the calls that are to fail, counted from 1.
-    pub fn new(alloc: Global, failing: Vec<u64>) -> MemFolder {
+    pub fn new(alloc: Global, failing: Vec<u64>) -> MemFolder
+        ensures blank { IsBlank (told_store result.store) }
+        ensures named { IsTrue result.named }
+        ensures calls { result.calls ≡ record { failing = failing.items; made = 0 } }
+    {
         MemFolder {
             store: MemStore::new(alloc, Vec::new(alloc), None),
             calls: CallCount::new(failing),

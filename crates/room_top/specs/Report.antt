@@ -4,6 +4,8 @@ use Rattle.room_base.specs.Faults.{Rose}
 use Rattle.room_base.specs.Outside.{SinkView, AddsFront}
 use Rattle.room_base.specs.Refusals.{refusal_text}
 use Rattle.room_base.specs.declared.refusal.Refusal.{Refusal}
+use Rattle.room_disk.specs.declared.folder_lock.LockFault.{LockFault}
+use Rattle.room_disk.specs.declared.folder_lock.LockFault.TheVariants as lock_faults
 use Rattle.room_top.specs.declared.status.Status.{Status}
 use Rattle.room_top.specs.declared.status.Status.TheVariants as status
 
@@ -31,3 +33,12 @@ Reports status.WriteFault old new = WritesLine (codes "room: write fault\n") old
 Reports status.DiskFault old new = WritesLine (codes "room: disk fault\n") old new
 Reports status.ClockFault old new = WritesLine (codes "room: clock fault\n") old new
 Reports (status.Refused refusal) old new = WritesLine (refusal_line refusal) old new
+
+-- the lines that say why a folder wasn't locked
+abbrev pub unlocked_lines : LockFault → List ℕ
+unlocked_lines lock_faults.InUse = codes "room: disk fault\nroom: folder in use\n"
+unlocked_lines lock_faults.NoFolder = codes "room: disk fault\nroom: no folder\n"
+
+-- what is written where a folder wasn't locked
+abbrev pub ReportsUnlocked : LockFault → SinkView → SinkView → Type 0
+ReportsUnlocked fault old new = WritesLine (unlocked_lines fault) old new

@@ -1,16 +1,18 @@
 -- What the program's arguments ask for, and how the program ends.
-use Rattle.std.specs.Prelude.{◌≡◌, ◌≢◌, ℕ, List, [], ◌∷◌, ◌++◌, codes, map, string_bytes, Result}
+use Rattle.std.specs.Prelude.{◌≡◌, ◌≢◌, ◌⊎◌, ℕ, List, [], ◌∷◌, ◌++◌, codes, map, string_bytes, Result}
 use Rattle.std.specs.Prelude.{Ok, Err, false}
 use Rattle.room_base.specs.Faults.{Rose}
 use Rattle.room_base.specs.Outside.{SinkView, Told, AddsFront}
 use Rattle.room_base.specs.Text.{IsName, HasLength}
 use Rattle.room_disk.specs.Untold.{untold_disk}
-use Rattle.room_top.specs.Report.{Reports}
+use Rattle.room_disk.specs.declared.folder_lock.LockFault.{LockFault}
+use Rattle.room_top.specs.Report.{Reports, ReportsUnlocked}
 use Rattle.room_top.specs.Run.{World, world, Ends}
 use Rattle.room_top.specs.declared.start.Request.{Request}
 use Rattle.room_top.specs.declared.start.Request.TheVariants as requests
 use Rattle.room_top.specs.declared.status.Status.{Status}
 use Rattle.room_top.specs.declared.status.Status.TheVariants as status
+use Rattle.room_top.specs.Words.{AreCommand}
 
 -- ---- what is asked for
 
@@ -78,11 +80,24 @@ Serves help version (Ok (requests.Run folder words)) old new answer =
     RunsOverSystem (map string_bytes words.items) old new answer
 Serves help version (Err fault) old new answer = (answer ≡ fault) × (new ≡ old)
 
--- How the program ends with these words: what they ask for is done on the output, and where errors
--- go the status is reported.
+-- the request is a command whose folder wasn't locked for it, so that nothing is done
+abbrev pub LeavesAlone : Result Request Status → SinkView → SinkView → Status → Type 0
+LeavesAlone (Ok (requests.Run folder words)) old new answer =
+    AreCommand (map string_bytes words.items) × (answer ≡ status.DiskFault) × (new ≡ old)
+LeavesAlone other old new answer = ⊥
+
+-- the request is done on the output, or its folder wasn't locked, and where errors go that is said
+abbrev pub ServesOrSays : List ℕ → List ℕ → Result Request Status → SinkView → SinkView → SinkView
+    → SinkView → Status → Type 0
+ServesOrSays help version request out out_now err err_now answer =
+    (Serves help version request out out_now answer × Told err.tells (Reports answer err err_now))
+    ⊎ ((fault : LockFault) × LeavesAlone request out out_now answer
+    × Told err.tells (ReportsUnlocked fault err err_now))
+
+-- How the program ends with these words: what they ask for is done once the folder is locked, and
+-- where errors go it is said why not.
 pub record Starts (help version : List ℕ) (words : List (List ℕ))
     (out out_now err err_now : SinkView) (answer : Status) : Type 0 where
   pub request : Result Request Status
   pub asked : AsksFor words request
-  pub served : Serves help version request out out_now answer
-  pub reported : Told err.tells (Reports answer err err_now)
+  pub served : ServesOrSays help version request out out_now err err_now answer

@@ -2,6 +2,8 @@
 use Rattle.std.specs.Prelude.{◌≡◌, ◌≢◌, ◌⊎◌, ℕ, ◌≤◌, ◌<◌, ◌^◌, List, [], ◌∷◌, codes, Result, Ok}
 use Rattle.std.specs.Prelude.{Err}
 use Rattle.std.specs.Fmt.{decimal}
+use Rattle.room_disk.specs.declared.folder_lock.Access.{Access}
+use Rattle.room_disk.specs.declared.folder_lock.Access.TheVariants as accesses
 use Rattle.volume_store.specs.Writes.{IsCart}
 use Rattle.room_top.specs.declared.status.Status.{Status}
 use Rattle.room_top.specs.declared.status.Status.TheVariants as status
@@ -100,3 +102,12 @@ abbrev pub IsMisfit : List ℕ → Status → Type 0
 IsMisfit word (status.Usage shown) = shown ≡ word
 IsMisfit word status.Memory = Unit {0}
 IsMisfit word other = ⊥
+
+-- what a command does with the files of the folder
+abbrev pub access_of : Command → Access
+access_of (commands.Put cart) = accesses.Writes
+access_of (commands.Get cart number) = accesses.Reads
+
+-- the words are a command
+abbrev pub AreCommand : List (List ℕ) → Type 0
+AreCommand words = (command : Command) × ReadsWords words (Ok command)

@@ -3,9 +3,11 @@
 ghost use Rattle.std.specs.Prelude.{◌≡◌, ◌≤◌};
 ghost use Rattle.room_base.specs.Outside.{Told, WritesText};
 ghost use Rattle.room_top.specs.Report.{usage_line, refusal_line, WritesLine, Reports};
+ghost use Rattle.room_top.specs.Report.{ReportsUnlocked};
 
 use crate::Status;
 use room_base::{Failed, Refusal, Sink, write_all, write_parts, write_refusal};
+use room_disk::LockFault;
 
 /// Writes the line that tells an operator why the program didn't do its work. Nothing is written
 /// for `Done`, and a fault of the sink changes nothing. Takes no memory.
@@ -24,6 +26,19 @@ pub fn report<E: Sink>(err: &mut E, status: &Status)
         Status::DiskFault => write_line(err, b"room: disk fault\n"),
         Status::ClockFault => write_line(err, b"room: clock fault\n"),
         Status::Refused(refusal) => report_refusal(err, refusal),
+    }
+}
+
+/// Tells an operator why the folder wasn't locked.
+pub fn report_unlocked<E: Sink>(err: &mut E, fault: LockFault)
+    ensures later { (E.view err.old).faults ≤ (E.view err.new).faults }
+    ensures tells { (E.view err.new).tells ≡ (E.view err.old).tells }
+    ensures reported { Told (E.view err.old).tells
+        (ReportsUnlocked fault (E.view err.old) (E.view err.new)) }
+{
+    match fault {
+        LockFault::InUse => write_line(err, b"room: disk fault\nroom: folder in use\n"),
+        LockFault::NoFolder => write_line(err, b"room: disk fault\nroom: no folder\n"),
     }
 }
 

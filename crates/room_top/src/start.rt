@@ -2,15 +2,15 @@ ghost use Rattle.std.specs.Prelude.{◌≡◌, ◌≤◌, ◌↔◌, ◌∷◌, 
 ghost use Rattle.room_base.specs.Outside.{Told};
 ghost use Rattle.room_top.specs.Numbers.{exit_number};
 ghost use Rattle.room_top.specs.Report.{Reports};
-ghost use Rattle.room_top.specs.Start.{AsksFor, IsFolderOf, PrintsText, Starts};
+ghost use Rattle.room_top.specs.Start.{AsksFor, IsFolderOf, PrintsText, RunsOverSystem, Starts};
 ghost use Rattle.room_top.specs.declared.status.Status.{Status};
 
 use crate::Status;
-use crate::report::report;
+use crate::report::{report, report_unlocked};
 use crate::run::run;
-use crate::words::misfit;
+use crate::words::{misfit, read_words};
 use room_base::{Name, NameFault, RealClock, Sink, StdSource, write_all};
-use room_disk::FolderStore;
+use room_disk::{FolderLock, FolderStore};
 use std::alloc::Global;
 use std::env;
 use std::fs::File;
@@ -33,7 +33,8 @@ The exit status is 0 where all was done; else a line on standard error says why 
 const VERSION: &[u8] = b"room 0.1.0\n";
 
 /// Reads the program's arguments, of which the first names the folder, does what the others ask,
-/// over the system's own objects, and answers the program's exit status. The arguments aren't told,
+/// over the system's own objects, and answers the program's exit status. The folder is locked while
+/// a command runs: for it alone where it writes, else for all that read. The arguments aren't told,
 /// so the contract says that there are some.
 pub fn start<W: Sink, E: Sink>(rt: &HostRuntime, out: &mut W, err: &mut E) -> u8
     ensures out_later { (W.view out.old).faults ≤ (W.view out.new).faults }
@@ -58,24 +59,48 @@ fn serve<W: Sink, E: Sink>(rt: &HostRuntime, out: &mut W, err: &mut E) -> Status
         Ok(Request::Help) => write_text(out, err, HELP),
         Ok(Request::Version) => write_text(out, err, VERSION),
         Ok(Request::Run { folder, words }) => {
-            let mut input = StdSource::new(rt.reader());
-            let mut disk = FolderStore::new(rt, alloc, folder);
-            let mut clock = RealClock::new(rt);
-            run(
-                alloc,
-                words.as_slice(),
-                &mut input,
-                out,
-                err,
-                &mut disk,
-                &mut clock,
-            )
+            let access = match read_words(alloc, words.as_slice()) {
+                Ok(command) => command.access(),
+                Err(status) => {
+                    report(err, &status);
+                    return status;
+                }
+            };
+            match FolderLock::take(rt, folder.as_str(), access) {
+                Ok(_lock) => run_in(rt, folder, words.as_slice(), out, err),
+                Err(fault) => {
+                    report_unlocked(err, fault);
+                    Status::DiskFault
+                }
+            }
         }
         Err(status) => {
             report(err, &status);
             status
         }
     }
+}
+
+// Does what the words ask in the folder.
+fn run_in<W: Sink, E: Sink>(
+    rt: &HostRuntime,
+    folder: Name,
+    words: &[String],
+    out: &mut W,
+    err: &mut E,
+) -> Status
+    ensures out_later { (W.view out.old).faults ≤ (W.view out.new).faults }
+    ensures err_later { (E.view err.old).faults ≤ (E.view err.new).faults }
+    ensures ran { RunsOverSystem (map string_bytes words.now) (W.view out.old) (W.view out.new)
+        result }
+    ensures reported { Told (E.view err.old).tells
+        (Reports result (E.view err.old) (E.view err.new)) }
+{
+    let alloc = rt.alloc();
+    let mut input = StdSource::new(rt.reader());
+    let mut disk = FolderStore::new(rt, alloc, folder);
+    let mut clock = RealClock::new(rt);
+    run(alloc, words, &mut input, out, err, &mut disk, &mut clock)
 }
 
 /// What the arguments ask for.

@@ -1,10 +1,12 @@
 ghost use Rattle.std.specs.Prelude.{◌≡◌, ◌≢◌, ◌<◌, ◌^◌, ℕ, decimal, map, string_bytes, MatchOption};
 ghost use Rattle.room_top.specs.Words.{IsCartWord, IsNoCartWord, IsFileWord, IsNoFileWord};
 ghost use Rattle.room_top.specs.Words.{IsMisfit, ReadsPut, ReadsGet, ReadsFile, ReadsWords};
+ghost use Rattle.room_top.specs.Words.{access_of};
 
 use crate::Status;
 use itoa::Buffer;
 use room_base::{Cart, Items};
+use room_disk::Access;
 use std::alloc::Global;
 use volume_block::MAX_CART;
 
@@ -15,6 +17,18 @@ pub enum Command {
     Put { cart: Cart },
     /// The file of the cartridge with this number, counted from 1, is written.
     Get { cart: Cart, number: u64 },
+}
+
+impl Command {
+    /// What the command does with the files of the folder.
+    pub fn access(self) -> Access
+        ensures { result ≡ access_of self }
+    {
+        match self {
+            Command::Put { .. } => Access::Writes,
+            Command::Get { .. } => Access::Reads,
+        }
+    }
 }
 
 /// Reads the words behind the folder. An `Err` is `Usage` or `Memory`.

@@ -19,9 +19,11 @@ store_region-requires-clause-sealed g c =
     let site = c.args.site.now in
     let bytes = c.args.bytes.now in
     let buffer = c.push.new.self in
-    let file = is_file_of c.args.cart.0 site bytes c.in-Ok.buffer buffer c.units.result c.number-number.result c.requires.ready c.units.ensures c.number-number.ensures c.in-Ok.ensures c.push.ensures.blocks in
-    (buffer.blocks, sym c.blocks-count.ensures.count,
-    sealed_for site bytes buffer c.volid.result.0 c.mark.result c.seal-region.result.now file c.volid.ensures c.mark.ensures c.seal-region.ensures.sealed)
+    let file = is_file_of c.args.cart.0 site bytes c.in-Ok.buffer buffer c.units.result c.number-number.result c.requires.ready c.units.ensures c.number-number.ensures c.in-Ok.ensures c.push.ensures.blocks in (
+      buffer.blocks,
+      sym c.blocks-count.ensures.count,
+      sealed_for site bytes buffer c.volid.result.0 c.mark.result c.seal-region.result.now file c.volid.ensures c.mark.ensures c.seal-region.ensures.sealed,
+    )
 
 pub store_region-requires-clause-ready : goal.store_region-requires-clause-ready
 store_region-requires-clause-ready g c =
