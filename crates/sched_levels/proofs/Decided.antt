@@ -12,15 +12,21 @@ use Rattle.room_rules.specs.declared.schedule.Override.{Override}
 use Rattle.room_rules.specs.declared.schedule.Schedule.{Schedule}
 use Rattle.sched_levels.specs.Actions.{OverridesAscend, action_on, day_of, override_on, place_in}
 
-pub theirs : (schedule : Schedule) (override : Override) → OverridesAscend schedule.overrides → Contains schedule.overrides override → action_on schedule override.day ≡ override.action
+pub theirs : (schedule : Schedule) (override : Override) → OverridesAscend schedule.overrides
+    → Contains schedule.overrides override → action_on schedule override.day ≡ override.action
 theirs schedule override ascending there =
     rw (listed_found nat_cmp_total day_of override schedule.overrides ascending there) refl
 
-unset : (overrides : List Override) (day : ℕ) → AllByRecursion (λ (override : Override). override.day ≢ day) overrides → override_on overrides day ≡ None
+unset : (overrides : List Override) (day : ℕ) → AllByRecursion
+    (λ (override : Override). override.day ≢ day) overrides → override_on overrides day ≡ None
 unset [] day apart = refl
 unset (override ∷ overrides) day apart =
-    cond-false (eq_by_cmp nat_cmp override.day day) (Some override) (override_on overrides day) (other_number override.day day apart.0)
+    cond-false (eq_by_cmp nat_cmp override.day day) (Some override) (override_on overrides day)
+    (other_number override.day day apart.0)
     ∙ unset overrides day apart.1
 
-pub others : (schedule : Schedule) (day : ℕ) → All (λ (override : Override). override.day ≢ day) schedule.overrides → action_on schedule day ≡ slice_index schedule.actions (place_in schedule.period day % length schedule.actions)
-others schedule day apart = rw (unset schedule.overrides day (recursion_from_All _ schedule.overrides apart)) refl
+pub others : (schedule : Schedule) (day : ℕ) → All (λ (override : Override). override.day ≢ day)
+    schedule.overrides → action_on schedule day
+    ≡ slice_index schedule.actions (place_in schedule.period day % length schedule.actions)
+others schedule day apart = rw (unset schedule.overrides day
+    (recursion_from_All _ schedule.overrides apart)) refl

@@ -10,8 +10,8 @@ full = 0
 abbrev pub incr : ℕ
 incr = 10
 
--- The rank below which the level of a base is: that of the save itself. An incremental save stands on
--- any level, incremental ones among them, and so below a rank that none has.
+-- The rank below which the level of a base is: that of the save itself. An incremental save stands
+-- on any level, incremental ones among them, and so below a rank that none has.
 abbrev pub rank_below : ℕ → ℕ
 rank_below level = if level == incr then 11 else level
 

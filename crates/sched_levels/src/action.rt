@@ -11,8 +11,8 @@ use crate::calendar::place_of;
 use room_rules::{Action, Override, Schedule};
 
 /// The action of a schedule on a day, counted from 1970-01-01: that of the override of the day, or
-/// else the one that stands in the list of actions at the day's place in its week or month. Takes no
-/// memory.
+/// else the one that stands in the list of actions at the day's place in its week or month. Takes
+/// no memory.
 pub fn level_on(schedule: &Schedule, day: u32) -> Action
     requires schedule { DecidesEachDay schedule.now }
     requires day { day ≤ last_day }

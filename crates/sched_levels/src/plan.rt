@@ -12,8 +12,8 @@ use room_rules::{Action, Group, Member, Planned, Schedule};
 use save_stream::Level;
 use std::alloc::Global;
 
-/// What a group with this schedule does with each of its members on a day, in their order: the level
-/// and the base of the save, or that it is skipped.
+/// What a group with this schedule does with each of its members on a day, in their order: the
+/// level and the base of the save, or that it is skipped.
 pub fn group_plan(
     alloc: Global,
     db: &MediaDb,

@@ -33,9 +33,9 @@ static WEEK: [u8; 7] = [FULL, INCR, INCR, INCR, FULL, INCR, INCR];
 
 static WEEK_OF_FIVE: [u8; 7] = [FULL, INCR, FIVE, INCR, FULL, FULL, INCR];
 
-// Days, and how many days of their month come before them, modulo 12. In their order: 1 January and
-// 31 January 1970; 29 February 2000; 28 February and 1 March 2023; 1, 28 and 29 February and 1 March
-// 2024; 31 December 2024; 28 February and 1 March 2100; 31 December 9998.
+// Days, and how many days of their month come before them, modulo 12. In their order: 1 January
+// and 31 January 1970; 29 February 2000; 28 February and 1 March 2023; 1, 28 and 29 February and
+// 1 March 2024; 31 December 2024; 28 February and 1 March 2100; 31 December 9998.
 static MONTH_DAYS: [(u32, u8); 13] = [
     (0, 0),
     (30, 6),
@@ -185,8 +185,8 @@ fn put(
     Ok(())
 }
 
-// A full save of alpha, an incremental one on it, one of level 5 on the full one, and an incremental
-// one on that; then a full save of beta.
+// A full save of alpha, an incremental one on it, one of level 5 on the full one, and an
+// incremental one on that; then a full save of beta.
 fn database_of(alloc: Global) -> Result<MediaDb, Memory> {
     let mut db = MediaDb::new(alloc);
     put(alloc, &mut db, 1, "alpha", FULL, 0, false)?;

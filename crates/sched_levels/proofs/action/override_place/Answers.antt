@@ -10,4 +10,5 @@ pub returns : goal.returns
 returns c =
     let facts = c.binary_search_by_key.ensures in
     let by_key = facts.position day_of (answers_always _ _ _ (λ f a r g called. search rules)) in
-    searched nat_cmp_total day_of c.args.overrides.now c.requires c.args.day c.binary_search_by_key.result facts.bound by_key
+    searched nat_cmp_total day_of c.args.overrides.now c.requires c.args.day
+    c.binary_search_by_key.result facts.bound by_key

@@ -9,4 +9,6 @@ use Rattle.sched_levels.proofs.action.overrides_ascend.Goals as goal
 
 pub returns : goal.returns
 returns c =
-    tested nat_cmp_total day_of _ _ (c.is_sorted_by.ensures.cases (λ (one other : Override). is_lt (nat_cmp one.day other.day)) (answers_always _ _ _ (λ f a r g called. search rules)))
+    tested nat_cmp_total day_of _ _ (c.is_sorted_by.ensures.cases
+    (λ (one other : Override). is_lt (nat_cmp one.day other.day))
+    (answers_always _ _ _ (λ f a r g called. search rules)))

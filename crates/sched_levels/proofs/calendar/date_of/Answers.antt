@@ -10,7 +10,8 @@ add-requires c =
     let fits : FitsSigned w64 c.from.result = omega (arith, signed_arith) in
     let only = simp to_z-of_z at c.days.ensures in
     let first = first_day c.date.result c.date.ensures in
-    let day : IsEpochDay (epoch_day c.date.result +ℤ c.from.result) = rw (first, c.from.ensures) (omega (arith, signed_arith)) in
+    let day : IsEpochDay (epoch_day c.date.result +ℤ c.from.result) = rw (first, c.from.ensures)
+    (omega (arith, signed_arith)) in
     (can_add-days c.date.result c.from.result c.days.result only).1 day
 
 pub returns : goal.returns
@@ -18,4 +19,5 @@ returns c =
     let fits : FitsSigned w64 c.from.result = omega (arith, signed_arith) in
     let only = simp to_z-of_z at c.days.ensures in
     let first = first_day c.date.result c.date.ensures in
-    c.add.ensures ∙ (date_add-days c.date.result c.from.result c.days.result only ∙ rw (first, c.from.ensures) (omega (arith, signed_arith)))
+    c.add.ensures ∙ (date_add-days c.date.result c.from.result c.days.result only
+    ∙ rw (first, c.from.ensures) (omega (arith, signed_arith)))
