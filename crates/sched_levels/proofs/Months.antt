@@ -1,9 +1,11 @@
 -- Where a day stands among months that follow each other.
 use Rattle.std.proofs.Common.{◌≡◌, ℕ, zero, suc, ◌+◌, ◌-◌, ◌<◌, List, [], ◌∷◌, ◌++◌, length, get_or}
+use Rattle.std.proofs.Common.{inl, inr, sym, ap}
 use Rattle.std.proofs.Common.{take, sum, refl, ◌∙◌, subst, arith}
+use Rattle.std.proofs.lemmas.Bool.{cases_lt}
 use Rattle.std.proofs.lemmas.Bool.Decides.{nat_tests}
 use Rattle.std.proofs.lemmas.List.Sums.{sum_by-cons}
-use Rattle.sched_levels.specs.Calendar.{month_lengths, months_from, days_into}
+use Rattle.sched_levels.specs.Calendar.{IsInto, month_lengths, months_from, days_into}
 
 -- a day of the first month
 within : (month : ℕ) (months : List ℕ) (day : ℕ) → day < month → days_into (month ∷ months) day
@@ -68,3 +70,40 @@ month_day year k more month day low high =
     let here : ℕ = sum (take month months) + day in
     rw (months_split year k (suc more), months_next (year + k) more)
     (behind (months_from year k) (months ++ last) here ∙ among months last month day low high)
+
+-- the place of a day behind the first month
+later : (first : ℕ) (months : List ℕ) (day rest into : ℕ) → day ≡ first + rest
+    → IsInto months rest into → IsInto (first ∷ months) day into
+later first months day rest into e is = record {
+  before = first ∷ is.before;
+  month = is.month;
+  after = is.after;
+  are = ap (λ (others : List ℕ). first ∷ others) is.are;
+  day_is = omega (arith, e, is.day_is, sum_by-cons (λ (x : ℕ). x) first is.before);
+  within = is.within;
+}
+
+pub found : (months : List ℕ) (day : ℕ) → day < sum months
+    → IsInto months day (days_into months day)
+found [] day below = absurd (omega arith)
+found (first ∷ months) day below = elim (cases_lt day first) [
+  | inl here ↦ rw (within first months day here) (record {
+    before = [];
+    month = first;
+    after = months;
+    are = refl;
+    day_is = omega arith;
+    within = here;
+  })
+  | inr above ↦
+      let rest : ℕ = day - first in
+      let e : day ≡ first + rest = omega (arith, above) in
+      let less : rest < sum months = omega (arith, above, below, sum_by-cons (λ (x : ℕ). x) first months) in
+      rw (past first months day rest e) (later first months day rest (days_into months rest) e (found months rest less))
+]
+
+pub only : (months : List ℕ) (day into : ℕ) → IsInto months day into
+    → into ≡ days_into months day
+only months day into is =
+    rw (is.are, is.day_is)
+    (sym (behind is.before (is.month ∷ is.after) into ∙ within is.month is.after into is.within))

@@ -1,6 +1,7 @@
 -- The calendar from 1970 on: where a day stands in its week and in its month.
 use Rattle.std.specs.Prelude.{ℕ, zero, suc, ◌+◌, ◌-◌, ◌%◌, ◌==◌, Bool, not, ◌&&◌, ◌||◌}
-use Rattle.std.specs.Prelude.{if◌then◌else◌, nat_lt, List, [], ◌∷◌, ◌++◌}
+use Rattle.std.specs.Prelude.{if◌then◌else◌, nat_lt, ◌≡◌, ◌<◌, List, [], ◌∷◌, ◌++◌}
+use Rattle.std.specs.List.{sum}
 
 -- the last day that is asked of, 31 December 9998
 abbrev pub last_day : ℕ
@@ -30,6 +31,15 @@ unfoldable pub days_into : List ℕ → ℕ → ℕ
 days_into [] day = day
 days_into (month ∷ months) day =
     if nat_lt day month then day else days_into months (day - month)
+
+-- a day is that many days into one of these months, of which the first begins with day 0
+pub record IsInto (months : List ℕ) (day into : ℕ) : Type 0 where
+  pub before : List ℕ
+  pub month : ℕ
+  pub after : List ℕ
+  pub are : months ≡ before ++ month ∷ after
+  pub day_is : day ≡ sum before + into
+  pub within : into < month
 
 -- the days of its month before a day; the months are those of the years 1970 to 9999
 abbrev pub day_of_month : ℕ → ℕ

@@ -12,7 +12,10 @@ mod plan;
 pub use action::{decides_each_day, level_on, overrides_ascend};
 pub use base::base_for;
 pub use calendar::LAST_DAY;
-pub use laws::{full_saves_alone_have_no_base, one_base_for_a_save, overrides_decide_their_days};
+pub use laws::{
+    days_stand_in_one_month, full_saves_alone_have_no_base, one_base_for_a_save,
+    overrides_decide_their_days,
+};
 pub use plan::group_plan;
 
 #[cfg(test)]
