@@ -1,0 +1,5 @@
+pub mod Bases
+pub mod Dates
+pub mod Decided
+pub mod Months
+pub mod Plans

@@ -1,0 +1,4 @@
+pub mod Actions
+pub mod Bases
+pub mod Calendar
+pub mod Plans
