@@ -1,0 +1,5 @@
+pub mod Depending
+pub mod Labels
+pub mod Listed
+pub mod Needing
+pub mod Purges

@@ -1,0 +1,19 @@
+//! Which save sets depend on which: what is needed and what can be purged, which volume may be
+//! labelled anew, and the chain of bases that a set is restored from.
+//! docs/definitions.md says what the words of the contracts mean.
+#![tactic(auto)]
+
+mod bases;
+mod chains;
+mod labelling;
+mod marks;
+mod need;
+mod open_set;
+mod purging;
+mod states;
+
+pub use chains::{ChainFault, chain};
+pub use labelling::may_label;
+pub use need::{needed, user_of};
+pub use open_set::OpenSet;
+pub use purging::{purgeable, purgeable_sets};
