@@ -1,9 +1,10 @@
 //! A mark for each record, which says that its set can't be purged.
 
-ghost use Rattle.std.specs.Prelude.{◌≡◌, ◌↔◌, ◌⊎◌, IfOk, IsTrue, length, vec_len};
+ghost use Rattle.std.specs.Prelude.{◌≡◌, ◌↔◌, ◌⊎◌, IfOk, IsTrue, length};
 ghost use Rattle.std.specs.Ordering.{nat_cmp};
 ghost use Rattle.room_base.specs.Ordered.{IsPlace};
 ghost use Rattle.media_db.specs.Rows.{AreRecords, ssid_of};
+ghost use Rattle.dep_chain.specs.Need.{AreSessions};
 ghost use Rattle.dep_chain.specs.Marks.{AreMarks, AreOwnMarks, MarksBase, Stays};
 
 use crate::OpenSet;
@@ -20,8 +21,9 @@ pub(crate) fn marks_of(
     sessions: &[OpenSet],
     moment: Moment,
 ) -> Result<Vec<bool>, Memory>
-    requires { AreRecords records.now }
-    ensures each { IfOk result (λ marks. vec_len marks ≡ length records.now) }
+    requires order { AreRecords records.now }
+    requires sessions { AreSessions records.now sessions.now }
+    ensures each { IfOk result (λ marks. length marks.items ≡ length records.now) }
     ensures marks { IfOk result (λ marks.
         AreMarks records.now sessions.now moment.0 marks.items) }
 {
@@ -43,7 +45,7 @@ fn own_marks(
     sessions: &[OpenSet],
     moment: Moment,
 ) -> Result<Vec<bool>, Memory>
-    ensures each { IfOk result (λ marks. vec_len marks ≡ length records.now) }
+    ensures each { IfOk result (λ marks. length marks.items ≡ length records.now) }
     ensures marks { IfOk result (λ marks.
         AreOwnMarks records.now sessions.now moment.0 (length records.now) marks.items) }
 {
@@ -63,8 +65,8 @@ fn stays(sessions: &[OpenSet], row: &Record, moment: Moment) -> bool
 
 fn mark_base(records: &[Record], marks: &mut Vec<bool>, base: Ssid)
     requires order { AreRecords records.now }
-    requires each { vec_len marks.old ≡ length records.now }
-    ensures each { vec_len marks.new ≡ length records.now }
+    requires each { length marks.old.items ≡ length records.now }
+    ensures each { length marks.new.items ≡ length records.now }
     ensures marks { MarksBase records.now base.0 marks.old.items marks.new.items }
 {
     if let Ok(place) = place_of(records, base) {

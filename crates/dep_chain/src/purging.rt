@@ -1,6 +1,6 @@
 //! Which save sets can be purged.
 
-ghost use Rattle.std.specs.Prelude.{◌≡◌, ◌↔◌, ◌≤◌, ◌⊎◌, IfOk, IsTrue, length, vec_len};
+ghost use Rattle.std.specs.Prelude.{◌≡◌, ◌↔◌, ◌≤◌, ◌⊎◌, IfOk, IsTrue, length};
 ghost use Rattle.std.specs.List.{Any};
 ghost use Rattle.media_db.specs.Rows.{AreRecords};
 ghost use Rattle.dep_chain.specs.Depends.{StandsOn};
@@ -49,12 +49,12 @@ pub fn purgeable_sets(
 fn unmarked_sets(
     alloc: Global,
     records: &[Record],
-    marks: &Vec<bool>,
+    marks: &[bool],
 ) -> Result<Vec<Ssid>, Memory>
     requires order { AreRecords records.now }
-    requires marks { vec_len marks.now ≡ length records.now }
+    requires marks { length marks.now ≡ length records.now }
     ensures { IfOk result (λ ssids.
-        AreUnmarked records.now marks.now.items (length records.now) ssids.items) }
+        AreUnmarked records.now marks.now (length records.now) ssids.items) }
 {
     let mut ssids = Vec::new(alloc);
     for (place, row) in records.iter().enumerate() {
