@@ -29,6 +29,16 @@ same_or_other i j = elim (cases_lt i j) [
     ]
 ]
 
+-- a mark that was read
+read_true : (marks : List Bool) (place : ℕ) → place < length marks → get_or marks place true ≡ true → get_or marks place false ≡ true
+read_true [] place within is = absurd (omega arith)
+read_true (one ∷ marks) zero within is = is
+read_true (one ∷ marks) (suc place) within is = read_true marks place (omega arith) is
+
+pub marked_read : (marks : List Bool) (place : ℕ) (mark : Bool) → place < length marks → mark ≡ get_or marks place mark → mark ≡ true → IsMarked marks place
+marked_read marks place true within read is = read_true marks place within (sym read)
+marked_read marks place false within read is = absurd (false≢true is)
+
 module _ (rows : List Record) (are : AreRecords rows) where
   pub at_found : (place : ℕ) (row : Record) → IsAt rows place row → find_record row.ssid.0 rows ≡ Some row
   at_found place row at = found rows row are (place, at.within, at.is)
@@ -176,6 +186,7 @@ module _ (rows : List Record) (are : AreRecords rows) (sessions : List OpenSet) 
         ],
     )
 
+module _ (rows : List Record) (sessions : List OpenSet) (moment : ℕ) where
   -- ---- the marks that sets have by themselves
 
   pub own_more : (at : ℕ) (row : Record) (marks : List Bool) (mark : Bool) → length marks ≡ at → at < length rows → row ≡ get_or rows at row → (IsTrue mark ↔ Stays sessions moment row) → AreOwnMarks rows sessions moment at marks → AreOwnMarks rows sessions moment (at + 1) (marks ++ mark ∷ [])

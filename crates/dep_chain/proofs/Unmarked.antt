@@ -1,5 +1,5 @@
 -- The sets without a mark are those that can be purged.
-use Rattle.std.proofs.Common.{◌≡◌, ◌≢◌, ℕ, zero, suc, ◌+◌, ◌<◌, ◌≤◌, ◌⊎◌, ◌↔◌, Bool, true, false, List, [], ◌∷◌, ◌++◌, Some, None, length, get_or, refl, sym, subst, ap, ◌∙◌, inl, inr, arith}
+use Rattle.std.proofs.Common.{◌≡◌, ◌≢◌, ℕ, zero, suc, ◌+◌, ◌<◌, ◌≤◌, ◌⊎◌, ◌↔◌, Bool, true, false, List, [], ◌∷◌, ◌++◌, Some, None, Result, Ok, Err, IfOk, length, get_or, refl, sym, subst, ap, ◌∙◌, inl, inr, arith}
 use mathlib.Core.Bool.{false≢true}
 use Rattle.std.specs.List.{Any, Contains}
 use Rattle.std.specs.Ordering.{nat_cmp}
@@ -18,6 +18,10 @@ use Rattle.dep_chain.proofs.Depending.{found_ssid}
 use Rattle.dep_chain.proofs.Listed.{found, higher_at, same_at}
 use Rattle.dep_chain.proofs.Marking.{at_found, found_at}
 use Rattle.dep_chain.proofs.Purges.{is_purgeable, not_both}
+
+pub ok_weaker : {T E : Type 0} (r : Result T E) (P Q : T → Type 0) → ((x : T) → P x → Q x) → IfOk r P → IfOk r Q
+ok_weaker (Ok x) P Q weaker is = weaker x is
+ok_weaker (Err e) P Q weaker is = tt
 
 -- ---- one set more
 
