@@ -41,29 +41,33 @@ module _ (rows : List Record) (sessions : List OpenSet) (volid moment : ℕ) (ar
     needed = forbids.1;
     on = elim forbids.0 [ inl copy ↦ inl (row, found rows row are is, copy) | inr written ↦ inr written ];
     none_off = λ off.
-      let here = found rows row are is in
-      let same : off.0 ≡ row = cc (here, off.1) in
-      forbids.2 (subst (λ (one : Record). Any (IsDoneOff volid) one.copies) same off.2);
+        let here = found rows row are is in
+        let same : off.0 ≡ row = cc (here, off.1) in
+        forbids.2 (subst (λ (one : Record). Any (IsDoneOff volid) one.copies) same off.2);
   }
 
   forbid_listed : (ssid : ℕ) → Forbids rows sessions volid moment ssid → (row : Record) × Contains rows row × (row.ssid.0 ≡ ssid) × ForbidsIt row
   forbid_listed ssid forbids =
-      let has = section_listed ssid forbids.on in
-      (has.0, has.1, has.2, (
-        has.3,
-        subst (λ (n : ℕ). Needed rows sessions moment n) (sym has.2) forbids.needed,
-        λ off. forbids.none_off (subst (λ (n : ℕ). HasCopyOff rows volid n) has.2 (copy_off has.0 has.1 off)),
-      ))
+      let has = section_listed ssid forbids.on in (
+        has.0,
+        has.1,
+        has.2,
+        (
+          has.3,
+          subst (λ (n : ℕ). Needed rows sessions moment n) (sym has.2) forbids.needed,
+          λ off. forbids.none_off (subst (λ (n : ℕ). HasCopyOff rows volid n) has.2 (copy_off has.0 has.1 off)),
+        ),
+      )
 
   pub least_forbids : (at : ℕ) (row : Record) → AllWithin Allows rows 0 at → at < length rows → row ≡ get_or rows at row → RowLiesOn sessions volid row × (¬ Any (IsDoneOff volid) row.copies) → Needed rows sessions moment row.ssid.0 → IsLabelAnswer rows sessions volid moment (Err row.ssid)
   least_forbids at row allows within read on needed =
       let forbids : ForbidsIt row = (on.0, needed, on.1) in (
         row_forbids row (at, within, sym read) forbids,
         λ ssid other.
-          let has = forbid_listed ssid other in
-          let upto = first_is_least ForbidsIt rows at (none_forbids at allows) are row within read has.0 has.1 has.3 in
-          let is = has.2 in
-          omega (arith, upto, is),
+            let has = forbid_listed ssid other in
+            let upto = first_is_least ForbidsIt rows at (none_forbids at allows) are row within read has.0 has.1 has.3 in
+            let is = has.2 in
+            omega (arith, upto, is),
       )
 
   pub all_allow : (at : ℕ) (done : Unit {0}) → AllWithin Allows rows 0 at → length rows ≤ at → IsLabelAnswer rows sessions volid moment (Ok done)

@@ -24,9 +24,9 @@ same_or_other : (i j : ℕ) → (i ≡ j) ⊎ (i ≢ j)
 same_or_other i j = elim (cases_lt i j) [
   | inl below ↦ inr (λ same. omega (arith, below, same))
   | inr above ↦ elim (cases_lt j i) [
-      | inl under ↦ inr (λ same. omega (arith, under, same))
-      | inr upto ↦ inl (omega (arith, above, upto))
-    ]
+    | inl under ↦ inr (λ same. omega (arith, under, same))
+    | inr upto ↦ inl (omega (arith, above, upto))
+  ]
 ]
 
 -- a mark that was read
@@ -65,11 +65,11 @@ module _ (rows : List Record) (are : AreRecords rows) where
           | inr not ↦ inl (sym (get_or-set_other old place other true false not) ∙ marked)
         ];
         marked = λ other row at has.
-          let there = get_or rows place row in
-          let is_there : get_or rows place there ≡ there = get_default rows place there row within in
-          let key = equal_numbers there.ssid.0 base (is.1 row) in
-          let same = place_order rows other place row there are at.within within at.is is_there (has ∙ sym key) in
-          subst (λ (k : ℕ). IsMarked (set old place true) k) (sym same) now;
+            let there = get_or rows place row in
+            let is_there : get_or rows place there ≡ there = get_default rows place there row within in
+            let key = equal_numbers there.ssid.0 base (is.1 row) in
+            let same = place_order rows other place row there are at.within within at.is is_there (has ∙ sym key) in
+            subst (λ (k : ℕ). IsMarked (set old place true) k) (sym same) now;
       }
 
   module _ (sessions : List OpenSet) (moment : ℕ) where
@@ -126,14 +126,14 @@ module _ (rows : List Record) (are : AreRecords rows) (sessions : List OpenSet) 
               let one = ap (λ (r : Record). r.base.0) (same_at rows at other row here.within is_here here.is) in
               base.marked lower under is_under (has ∙ one)
           | inr not ↦ elim (base.only place other is now) [
-              | inl was ↦
-                  let higher : next ≤ place = omega (arith, above, not, step) in
-                  base.grown lower (before.passed place lower other under higher is was is_under has)
-              | inr same ↦
-                  let strictly : at < place = omega (arith, above, not) in
-                  let up = higher_at rows at place row other are strictly is.within here.is is.is in
-                  absurd (omega (arith, up, same, low))
-            ]
+            | inl was ↦
+                let higher : next ≤ place = omega (arith, above, not, step) in
+                base.grown lower (before.passed place lower other under higher is was is_under has)
+            | inr same ↦
+                let strictly : at < place = omega (arith, above, not) in
+                let up = higher_at rows at place row other are strictly is.within here.is is.is in
+                absurd (omega (arith, up, same, low))
+          ]
         ];
       }
 
@@ -177,13 +177,13 @@ module _ (rows : List Record) (are : AreRecords rows) (sessions : List OpenSet) 
     all_marked each place row at = (
       λ marked. all.sound place row at marked,
       λ under.
-        let user = user_marked each under.user under.stays in
-        elim under.on [
-          | inl same ↦
-              let one = place_order rows user.0 place user.1 row are user.2.within at.within user.2.is at.is (user.3 ∙ same) in
-              subst (λ (k : ℕ). IsMarked marks k) one user.4
-          | inr depends ↦ carried depends user.0 place user.1 row user.2 user.3 user.4 at refl
-        ],
+          let user = user_marked each under.user under.stays in
+          elim under.on [
+            | inl same ↦
+                let one = place_order rows user.0 place user.1 row are user.2.within at.within user.2.is at.is (user.3 ∙ same) in
+                subst (λ (k : ℕ). IsMarked marks k) one user.4
+            | inr depends ↦ carried depends user.0 place user.1 row user.2 user.3 user.4 at refl
+          ],
     )
 
 module _ (rows : List Record) (sessions : List OpenSet) (moment : ℕ) where
@@ -194,8 +194,7 @@ module _ (rows : List Record) (sessions : List OpenSet) (moment : ℕ) where
     | inl same ↦
         let here : get_or rows at other ≡ other = subst (λ (k : ℕ). get_or rows k other ≡ other) same is.is in
         let one : row ≡ other = same_at rows at row other within (sym read) here in
-        let last : get_or (marks ++ mark ∷ []) place false ≡ mark = subst (λ (k : ℕ). get_or (marks ++ mark ∷ []) k false ≡ mark) (lengths ∙ sym same) (get_last marks mark) in
-        (
+        let last : get_or (marks ++ mark ∷ []) place false ≡ mark = subst (λ (k : ℕ). get_or (marks ++ mark ∷ []) k false ≡ mark) (lengths ∙ sym same) (get_last marks mark) in (
           λ marked. subst (λ (r : Record). Stays sessions moment r) one (iff.0 (sym last ∙ marked)),
           λ stays. last ∙ iff.1 (subst (λ (r : Record). Stays sessions moment r) (sym one) stays),
         )

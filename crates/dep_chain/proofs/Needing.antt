@@ -80,10 +80,10 @@ module _ (rows : List Record) (sessions : List OpenSet) (moment : ℕ) (are : Ar
     least_user ssid at row none within read needs depends = (
       (depends, row_needs row (at, within, sym read) needs),
       λ user uses.
-        let has = use_listed ssid user uses in
-        let upto = first_is_least (UsesIt ssid) rows at none are row within read has.0 has.1 has.3 in
-        let is = has.2 in
-        omega (arith, upto, is),
+          let has = use_listed ssid user uses in
+          let upto = first_is_least (UsesIt ssid) rows at none are row within read has.0 has.1 has.3 in
+          let is = has.2 in
+          omega (arith, upto, is),
     )
 
     pub no_user : (ssid at : ℕ) → AllWithin (λ row. ¬ UsesIt ssid row) rows 0 at → length rows ≤ at → IsLeastUser rows sessions moment ssid None

@@ -64,9 +64,9 @@ module _ (rows : List Record) (are : AreRecords rows) (marks : List Bool) where
       let here : IsAt rows at row = record { within = within; is = sym read } in
       record {
         ascending = ascends_more row.ssid ssids before.ascending (λ ssid is.
-          let one = before.only ssid is in
-          let up = higher_at rows one.place at one.row row are one.before within one.at.is (sym read) in
-          subst (λ (s : Ssid). s.0 < row.ssid.0) one.is up);
+            let one = before.only ssid is in
+            let up = higher_at rows one.place at one.row row are one.before within one.at.is (sym read) in
+            subst (λ (s : Ssid). s.0 < row.ssid.0) one.is up);
         only = λ ssid is. elim (Contains-append_cases ssids (row.ssid ∷ []) ssid is) [
           | inl was ↦ wider at ssid (before.only ssid was)
           | inr new ↦ record { place = at; row = row; before = omega arith; at = here; is = one_of row.ssid ssid new.0 new.1 new.2; complete = complete; free = free }
@@ -128,7 +128,7 @@ module _ (rows : List Record) (are : AreRecords rows) (marks : List Bool) where
           is = ap numbered key;
           complete = is.complete;
           free = no_mark (get_or marks at.0 false) (λ mark.
-            not_under ssid.0 is (subst (λ (n : ℕ). StaysUnder rows sessions moment n) key ((marked at.0 is.row at.1).0 mark)));
+              not_under ssid.0 is (subst (λ (n : ℕ). StaysUnder rows sessions moment n) key ((marked at.0 is.row at.1).0 mark)));
         }
 
     pub unmarked_purgeable : (ssids : List Ssid) → AreUnmarked rows marks (length rows) ssids → AreThePurgeable rows sessions moment ssids

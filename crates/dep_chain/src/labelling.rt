@@ -49,17 +49,13 @@ fn row_lies_on(sessions: &[OpenSet], row: &Record, volid: Volid) -> bool
 fn has_done_on(copies: &[SetCopy], volid: Volid) -> bool
     ensures { IsTrue result ↔ Any (IsDoneOn volid.0) copies.now }
 {
-    copies
-        .iter()
-        .any(|copy| copy.state == CopyState::Done && lies_on(copy, volid))
+    copies.iter().any(|copy| copy.state == CopyState::Done && lies_on(copy, volid))
 }
 
 fn has_done_off(copies: &[SetCopy], volid: Volid) -> bool
     ensures { IsTrue result ↔ Any (IsDoneOff volid.0) copies.now }
 {
-    copies
-        .iter()
-        .any(|copy| copy.state == CopyState::Done && !lies_on(copy, volid))
+    copies.iter().any(|copy| copy.state == CopyState::Done && !lies_on(copy, volid))
 }
 
 fn lies_on(copy: &SetCopy, volid: Volid) -> bool
@@ -74,9 +70,7 @@ fn lies_on(copy: &SetCopy, volid: Volid) -> bool
 fn is_written_on(sessions: &[OpenSet], ssid: Ssid, volid: Volid) -> bool
     ensures { IsTrue result ↔ IsWrittenOn sessions.now volid.0 ssid.0 }
 {
-    sessions
-        .iter()
-        .any(|session| session.ssid.0 == ssid.0 && session_lies_on(session, volid))
+    sessions.iter().any(|session| session.ssid.0 == ssid.0 && session_lies_on(session, volid))
 }
 
 fn session_lies_on(session: &OpenSet, volid: Volid) -> bool

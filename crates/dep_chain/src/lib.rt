@@ -17,3 +17,6 @@ pub use labelling::may_label;
 pub use need::{needed, user_of};
 pub use open_set::OpenSet;
 pub use purging::{purgeable, purgeable_sets};
+
+#[cfg(test)]
+mod tests;

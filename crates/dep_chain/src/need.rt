@@ -45,9 +45,7 @@ fn is_kept_for(db: &MediaDb, records: &[Record], ssid: Ssid, moment: Moment) -> 
         ↔ Any (λ row. IsKept moment.0 row × StandsOn db.now.records row.ssid.0 ssid.0)
         records.now }
 {
-    records
-        .iter()
-        .any(|row| is_kept(row, moment) && stands_on(db, row.ssid, ssid))
+    records.iter().any(|row| is_kept(row, moment) && stands_on(db, row.ssid, ssid))
 }
 
 // The record is complete and unexpired, or its set has an open session.

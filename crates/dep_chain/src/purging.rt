@@ -46,11 +46,7 @@ pub fn purgeable_sets(
 }
 
 // The complete sets without a mark.
-fn unmarked_sets(
-    alloc: Global,
-    records: &[Record],
-    marks: &[bool],
-) -> Result<Vec<Ssid>, Memory>
+fn unmarked_sets(alloc: Global, records: &[Record], marks: &[bool]) -> Result<Vec<Ssid>, Memory>
     requires order { AreRecords records.now }
     requires marks { length marks.now ≡ length records.now }
     ensures { IfOk result (λ ssids.
@@ -94,7 +90,5 @@ fn is_browsed_under(db: &MediaDb, records: &[Record], ssid: Ssid, moment: Moment
     ensures { IsTrue result ↔ Any (λ row. StaysBrowsed moment.0 row
         × StandsOn db.now.records row.ssid.0 ssid.0) records.now }
 {
-    records
-        .iter()
-        .any(|row| stays_browsed(row, moment) && stands_on(db, row.ssid, ssid))
+    records.iter().any(|row| stays_browsed(row, moment) && stands_on(db, row.ssid, ssid))
 }
