@@ -75,3 +75,14 @@ on_the_base rows user ssid base on has = elim on [
   | inl same ↦ inr (on_base user base (subst (λ (n : ℕ). HasBase rows n base) (sym same) has))
   | inr depends ↦ inr (onward base depends has)
 ]
+
+-- what it depends on, and what that depends on
+pub depends_onward : {rows : List Record} {ssid base other : ℕ} → Depends rows ssid base → Depends rows base other → Depends rows ssid other
+depends_onward {other = other} (on_base ssid base has) then = on_further ssid base other has then
+depends_onward {other = other} (on_further ssid next base has more) then = on_further ssid next other has (depends_onward more then)
+
+pub stands_onward : (rows : List Record) (user ssid other : ℕ) → StandsOn rows user ssid → Depends rows ssid other → StandsOn rows user other
+stands_onward rows user ssid other on depends = elim on [
+  | inl same ↦ inr (subst (λ (n : ℕ). Depends rows n other) (sym same) depends)
+  | inr first ↦ inr (depends_onward first depends)
+]

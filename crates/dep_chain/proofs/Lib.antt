@@ -1,3 +1,4 @@
+pub mod ChainLaws
 pub mod Depending
 pub mod Labels
 pub mod Listed

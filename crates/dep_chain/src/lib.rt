@@ -6,6 +6,7 @@
 mod bases;
 mod chains;
 mod labelling;
+mod laws;
 mod marks;
 mod need;
 mod open_set;
@@ -14,6 +15,10 @@ mod states;
 
 pub use chains::{ChainFault, chain};
 pub use labelling::may_label;
+pub use laws::{
+    chain_is_what_it_depends_on, dependence_goes_down, need_is_passed_down, one_chain_or_one_fault,
+    purgeable_from_above,
+};
 pub use need::{needed, user_of};
 pub use open_set::OpenSet;
 pub use purging::{purgeable, purgeable_sets};
