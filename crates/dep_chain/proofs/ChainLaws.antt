@@ -1,15 +1,15 @@
 -- A set's chain, where it breaks, and what it has.
-use Rattle.std.proofs.Common.{◌≡◌, ◌≢◌, ℕ, zero, suc, ◌+◌, ◌<◌, ◌⊎◌, ◌↔◌, true, false, List, [], ◌∷◌, Some, None, length, get_or, refl, sym, subst, ap, ◌∙◌, inl, inr, arith}
+use Rattle.std.proofs.Common.{◌≡◌, ◌≢◌, ℕ, zero, suc, ◌<◌, ◌⊎◌, ◌↔◌, true, List, [], ◌∷◌, length, get_or, refl, sym, subst, ap, ◌∙◌, inl, inr, arith}
 use mathlib.Core.Bool.{false≢true}
 use Rattle.std.specs.List.{Contains}
 use Rattle.room_base.specs.declared.numbers.Ssid.{Ssid}
 use Rattle.media_db.specs.declared.records.Record.{Record}
-use Rattle.media_db.specs.Rows.{find_record}
 use Rattle.dep_chain.specs.declared.chains.ChainFault.{ChainFault}
 use Rattle.dep_chain.specs.declared.chains.ChainFault.TheVariants.{BaseGone, Purged}
 use Rattle.dep_chain.specs.Chains.{IsComplete, IsWhole, IsChain, alone, based, Breaks, gone, purged, lower}
 use Rattle.dep_chain.specs.Depends.{HasBase, Depends, on_base, on_further, StandsOn}
-use Rattle.dep_chain.proofs.Depending.{step_up, one_base}
+use Rattle.dep_chain.proofs.Depending.{depends_down, step_up}
+use Rattle.dep_chain.proofs.Listed.{in_one}
 
 same_row : {rows : List Record} {ssid : ℕ} (row other : Record) → IsComplete rows ssid row → IsComplete rows ssid other → row ≡ other
 same_row row other is also = let one = is.found in let two = also.found in cc (one, two)
@@ -73,10 +73,6 @@ one_fault (lower ssid row fault whole some breaks) other = one_fault breaks (bre
 first_is : (ssid other : Ssid) → ssid.0 ≡ other.0 → ssid ≡ other
 first_is ssid other same = let numbered : ℕ → Ssid = λ n. record { 0 = n } in ap numbered same
 
-in_one : (x y : Ssid) (k : ℕ) → k < length (x ∷ []) → get_or (x ∷ []) k y ≡ y → x ≡ y
-in_one x y zero within is = is
-in_one x y (suc k) within is = absurd (omega arith)
-
 in_more : (x y : Ssid) (xs : List Ssid) (k : ℕ) → k < length (x ∷ xs) → get_or (x ∷ xs) k y ≡ y → (x ≡ y) ⊎ Contains xs y
 in_more x y xs zero within is = inl is
 in_more x y xs (suc k) within is = inr (k, omega arith, is)
@@ -94,11 +90,6 @@ stands_alone row is none has =
 no_base : {rows : List Record} {ssid other : ℕ} (row : Record) → IsComplete rows ssid row → row.base.0 ≡ 0 → Depends rows ssid other → ⊥
 no_base row is none (on_base ssid base has) = stands_alone row is none has
 no_base row is none (on_further ssid base other has more) = stands_alone row is none has
-
-base_stands : {rows : List Record} {ssid other : ℕ} (base : ℕ) → HasBase rows ssid base → Depends rows ssid other → StandsOn rows base other
-base_stands {rows = rows} base has (on_base ssid other also) = inl (one_base rows ssid base other has also)
-base_stands {rows = rows} base has (on_further ssid next other also more) =
-    inr (subst (λ (n : ℕ). Depends rows n other) (one_base rows ssid next base also has) more)
 
 pub has_what_it_stands_on : {rows : List Record} {ssid : Ssid} {ssids : List Ssid} (other : Ssid) → IsChain rows ssid ssids → Contains ssids other ↔ StandsOn rows ssid.0 other.0
 has_what_it_stands_on other (alone ssid row whole none) = (
@@ -118,7 +109,7 @@ has_what_it_stands_on {rows = rows} other (based ssid row below whole some is) =
       λ on. elim on [
         | inl same ↦ (0, omega arith, first_is ssid other same)
         | inr depends ↦
-            let there = rest.1 (base_stands row.base.0 has depends) in
+            let there = rest.1 (depends_down row.base.0 has depends) in
             let within = there.1 in
             (suc there.0, omega (arith, within), there.2)
       ],

@@ -1,5 +1,5 @@
 -- How a set depends on what its bases lead to.
-use Rattle.std.proofs.Common.{◌≡◌, ℕ, ◌<◌, ◌≤◌, ◌⊎◌, List, Some, None, refl, sym, subst, ◌∙◌, inl, inr, arith}
+use Rattle.std.proofs.Common.{◌≡◌, ℕ, ◌<◌, ◌≤◌, List, Some, refl, sym, subst, ◌∙◌, inl, inr, arith}
 use Rattle.std.proofs.lemmas.Cmp.{nat_cmp_total}
 use Rattle.room_base.proofs.OrderedLaws.{found_has_key}
 use Rattle.room_base.proofs.OrderedNumbers.{equal_numbers}
@@ -32,7 +32,7 @@ one_base rows ssid base other has and =
 
 -- ---- one step of the walk
 
-depends_down : {rows : List Record} {ssid other : ℕ} (base : ℕ) → HasBase rows ssid base → Depends rows ssid other → StandsOn rows base other
+pub depends_down : {rows : List Record} {ssid other : ℕ} (base : ℕ) → HasBase rows ssid base → Depends rows ssid other → StandsOn rows base other
 depends_down {rows = rows} base has (on_base ssid other and) = inl (one_base rows ssid base other has and)
 depends_down {rows = rows} base has (on_further ssid next other and more) =
     inr (subst (λ (n : ℕ). Depends rows n other) (one_base rows ssid next base and has) more)
@@ -65,17 +65,6 @@ none_below rows ssid other are upto on = elim on [
   | inr depends ↦ let lower = depends_lower are depends in absurd (omega (arith, lower, upto))
 ]
 
--- what stands on a set stands on its base
-onward : {rows : List Record} {user ssid : ℕ} (base : ℕ) → Depends rows user ssid → HasBase rows ssid base → Depends rows user base
-onward base (on_base user ssid first) has = on_further user ssid base first (on_base ssid base has)
-onward base (on_further user next ssid first more) has = on_further user next base first (onward base more has)
-
-pub on_the_base : (rows : List Record) (user ssid base : ℕ) → StandsOn rows user ssid → HasBase rows ssid base → StandsOn rows user base
-on_the_base rows user ssid base on has = elim on [
-  | inl same ↦ inr (on_base user base (subst (λ (n : ℕ). HasBase rows n base) (sym same) has))
-  | inr depends ↦ inr (onward base depends has)
-]
-
 -- what it depends on, and what that depends on
 pub depends_onward : {rows : List Record} {ssid base other : ℕ} → Depends rows ssid base → Depends rows base other → Depends rows ssid other
 depends_onward {other = other} (on_base ssid base has) then = on_further ssid base other has then
@@ -86,3 +75,7 @@ stands_onward rows user ssid other on depends = elim on [
   | inl same ↦ inr (subst (λ (n : ℕ). Depends rows n other) (sym same) depends)
   | inr first ↦ inr (depends_onward first depends)
 ]
+
+-- what stands on a set stands on its base
+pub on_the_base : (rows : List Record) (user ssid base : ℕ) → StandsOn rows user ssid → HasBase rows ssid base → StandsOn rows user base
+on_the_base rows user ssid base on has = stands_onward rows user ssid base on (on_base ssid base has)

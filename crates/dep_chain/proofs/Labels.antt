@@ -1,15 +1,14 @@
 -- Which set forbids that a volume is labelled anew.
-use Rattle.std.proofs.Common.{◌≡◌, ℕ, ◌+◌, ◌<◌, ◌≤◌, ◌⊎◌, ◌↔◌, Bool, true, false, not, IsTrue, List, Ok, Err, Some, None, length, get_or, refl, sym, subst, ap, ◌∙◌, inl, inr, arith}
+use Rattle.std.proofs.Common.{◌≡◌, ℕ, ◌+◌, ◌<◌, ◌≤◌, ◌↔◌, Bool, true, false, not, IsTrue, List, Ok, Err, length, get_or, refl, sym, subst, ◌∙◌, inl, inr, arith}
 use mathlib.Core.Bool.{false≢true}
 use Rattle.std.specs.Bool.{MatchBool}
 use Rattle.std.specs.List.{Any, AllWithin, Contains}
 use Rattle.std.proofs.lemmas.Bool.{cases_lt}
-use Rattle.room_base.specs.declared.numbers.Ssid.{Ssid}
 use Rattle.media_db.specs.declared.records.Record.{Record}
-use Rattle.media_db.specs.Rows.{AreRecords, find_record}
+use Rattle.media_db.specs.Rows.{AreRecords}
 use Rattle.dep_chain.specs.declared.open_set.OpenSet.{OpenSet}
 use Rattle.dep_chain.specs.Need.{AreSessions, Needed}
-use Rattle.dep_chain.specs.Labelling.{Forbids, HasCopyOff, HasSectionOn, IsDoneOff, IsDoneOn, IsLabelAnswer, IsWrittenOn, RowLiesOn}
+use Rattle.dep_chain.specs.Labelling.{Forbids, HasCopyOff, HasSectionOn, IsDoneOff, IsLabelAnswer, IsWrittenOn, RowLiesOn}
 use Rattle.dep_chain.proofs.Depending.{found_ssid}
 use Rattle.dep_chain.proofs.Listed.{listed, found, first_is_least, get_default}
 use Rattle.dep_chain.proofs.Needing.{open_listed}

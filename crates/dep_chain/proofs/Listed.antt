@@ -1,6 +1,6 @@
 -- Records in the order of their list.
-use Rattle.std.proofs.Common.{◌≡◌, ℕ, zero, suc, ◌<◌, ◌≤◌, ◌⊎◌, List, [], ◌∷◌, length, get_or, Some, None, refl, sym, subst, ap, ◌∙◌, inl, inr, arith}
-use Rattle.std.specs.List.{AllByRecursion, AllWithin, Contains}
+use Rattle.std.proofs.Common.{◌≡◌, ℕ, zero, suc, ◌<◌, ◌≤◌, List, [], ◌∷◌, length, get_or, Some, refl, sym, subst, ap, ◌∙◌, inl, inr, arith}
+use Rattle.std.specs.List.{AllWithin, Contains}
 use Rattle.std.specs.Ordering.{nat_cmp}
 use Rattle.std.proofs.lemmas.Bool.{cases_lt}
 use Rattle.std.proofs.lemmas.Cmp.{nat_cmp_total}
@@ -10,7 +10,6 @@ use Rattle.room_base.proofs.OrderedLaws.{found_listed, listed_found}
 use Rattle.room_base.proofs.OrderedNumbers.{lesser_number}
 use Rattle.media_db.specs.declared.records.Record.{Record}
 use Rattle.media_db.specs.Rows.{AreRecords, find_record, ssid_of}
-use Rattle.dep_chain.proofs.Depending.{found_ssid}
 
 -- a record that is found is in the list, and the other way round
 pub listed : (rows : List Record) (ssid : ℕ) (row : Record) → find_record ssid rows ≡ Some row → Contains rows row
@@ -18,6 +17,11 @@ listed rows ssid row found = found_listed nat_cmp_total ssid_of ssid row rows fo
 
 pub found : (rows : List Record) (row : Record) → AreRecords rows → Contains rows row → find_record row.ssid.0 rows ≡ Some row
 found rows row are is = listed_found nat_cmp_total ssid_of row rows are.ascending is
+
+-- what is in a list of one item
+pub in_one : {X : Type 0} (x y : X) (k : ℕ) → k < length (x ∷ []) → get_or (x ∷ []) k y ≡ y → x ≡ y
+in_one x y zero within is = is
+in_one x y (suc k) within is = absurd (omega arith)
 
 -- ---- order
 

@@ -1,10 +1,11 @@
 -- How marks pass down to the bases, and which sets have none in the end.
-use Rattle.std.proofs.Common.{◌≡◌, ◌≢◌, ℕ, zero, suc, ◌+◌, ◌<◌, ◌≤◌, ◌⊎◌, ◌↔◌, Bool, true, false, IsTrue, List, [], ◌∷◌, ◌++◌, Some, None, Ok, Err, length, get_or, set, refl, sym, subst, ap, ◌∙◌, inl, inr, arith, length-set}
+use Rattle.std.proofs.Common.{◌≡◌, ◌≢◌, ℕ, zero, suc, ◌+◌, ◌<◌, ◌≤◌, ◌⊎◌, ◌↔◌, Bool, true, false, IsTrue, List, [], ◌∷◌, ◌++◌, Some, Ok, length, get_or, set, refl, sym, subst, ap, ◌∙◌, inl, inr, arith}
 use mathlib.Core.Bool.{false≢true}
-use Rattle.std.specs.List.{Any, Contains}
 use Rattle.std.specs.Ordering.{nat_cmp}
 use Rattle.std.specs.declared.cmp.Ordering.TheVariants.{Equal}
 use Rattle.std.proofs.lemmas.Bool.{cases_lt}
+use Rattle.std.proofs.Math.ListN.{get_or-append}
+use Rattle.std.proofs.Math.Seq.{get_or-append_seam}
 use Rattle.std.proofs.lemmas.List.{get_or-set_same, get_or-set_other}
 use Rattle.room_base.specs.Ordered.{IsPlace}
 use Rattle.room_base.proofs.OrderedNumbers.{equal_numbers}
@@ -12,7 +13,7 @@ use Rattle.media_db.specs.declared.records.Record.{Record}
 use Rattle.media_db.specs.Rows.{AreRecords, find_record, ssid_of}
 use Rattle.media_db.proofs.Chains.{base_has_lower}
 use Rattle.dep_chain.specs.declared.open_set.OpenSet.{OpenSet}
-use Rattle.dep_chain.specs.Depends.{HasBase, Depends, on_base, on_further, StandsOn}
+use Rattle.dep_chain.specs.Depends.{HasBase, Depends, on_base, on_further}
 use Rattle.dep_chain.specs.Need.{AreSessions, IsOpen}
 use Rattle.dep_chain.specs.Purging.{StaysBrowsed}
 use Rattle.dep_chain.specs.Marks.{AreMarks, AreOwnMarks, IsAt, IsMarked, MarksBase, Stays, StaysUnder}
@@ -194,23 +195,14 @@ module _ (rows : List Record) (sessions : List OpenSet) (moment : ℕ) where
     | inl same ↦
         let here : get_or rows at other ≡ other = subst (λ (k : ℕ). get_or rows k other ≡ other) same is.is in
         let one : row ≡ other = same_at rows at row other within (sym read) here in
-        let last : get_or (marks ++ mark ∷ []) place false ≡ mark = subst (λ (k : ℕ). get_or (marks ++ mark ∷ []) k false ≡ mark) (lengths ∙ sym same) (get_last marks mark) in (
+        let last : get_or (marks ++ mark ∷ []) place false ≡ mark = subst (λ (k : ℕ). get_or (marks ++ mark ∷ []) k false ≡ mark) (lengths ∙ sym same) (get_or-append_seam marks mark [] false) in (
           λ marked. subst (λ (r : Record). Stays sessions moment r) one (iff.0 (sym last ∙ marked)),
           λ stays. last ∙ iff.1 (subst (λ (r : Record). Stays sessions moment r) (sym one) stays),
         )
     | inr not ↦
         let under : place < at = omega (arith, below, not) in
         let inside : place < length marks = omega (arith, under, lengths) in
-        let same : get_or (marks ++ mark ∷ []) place false ≡ get_or marks place false = get_front marks mark place inside in
+        let same : get_or (marks ++ mark ∷ []) place false ≡ get_or marks place false = get_or-append marks (mark ∷ []) false place inside in
         let iff_before = before place other under is in
         (λ marked. iff_before.0 (sym same ∙ marked), λ stays. same ∙ iff_before.1 stays)
   ]
-    where
-      get_last : (marks : List Bool) (mark : Bool) → get_or (marks ++ mark ∷ []) (length marks) false ≡ mark
-      get_last [] mark = refl
-      get_last (one ∷ marks) mark = get_last marks mark
-
-      get_front : (marks : List Bool) (mark : Bool) (place : ℕ) → place < length marks → get_or (marks ++ mark ∷ []) place false ≡ get_or marks place false
-      get_front [] mark place inside = absurd (omega arith)
-      get_front (one ∷ marks) mark zero inside = refl
-      get_front (one ∷ marks) mark (suc place) inside = get_front marks mark place (omega arith)

@@ -1,10 +1,8 @@
 -- Who needs a set, by the lists of records and of sessions.
-use Rattle.std.proofs.Common.{◌≡◌, ℕ, zero, suc, ◌<◌, ◌≤◌, ◌⊎◌, List, [], ◌∷◌, Option, Some, None, length, get_or, refl, sym, subst, ap, ◌∙◌, inl, inr, arith}
+use Rattle.std.proofs.Common.{◌≡◌, ℕ, zero, suc, ◌<◌, ◌≤◌, ◌⊎◌, List, [], ◌∷◌, Some, None, length, get_or, refl, sym, subst, ◌∙◌, inl, inr, arith}
 use Rattle.std.specs.List.{Any, AllByRecursion, AllWithin, Contains}
-use Rattle.std.proofs.lemmas.Cmp.{nat_cmp_total}
-use Rattle.room_base.specs.declared.numbers.Ssid.{Ssid}
 use Rattle.media_db.specs.declared.records.Record.{Record}
-use Rattle.media_db.specs.Rows.{AreRecords, find_record, ssid_of}
+use Rattle.media_db.specs.Rows.{AreRecords}
 use Rattle.dep_chain.specs.declared.open_set.OpenSet.{OpenSet}
 use Rattle.dep_chain.specs.Depends.{Depends, StandsOn}
 use Rattle.dep_chain.specs.Need.{AreSessions, HasRecord, IsKept, IsLeastUser, IsOpen, Needed, Needs, Uses}

@@ -1,14 +1,13 @@
 -- What keeps a set from being purged.
-use Rattle.std.proofs.Common.{◌≡◌, ℕ, ◌<◌, ◌≤◌, ◌⊎◌, ◌↔◌, Bool, true, false, not, IsTrue, List, Some, None, length, get_or, refl, sym, subst, ap, ◌∙◌, inl, inr, arith}
+use Rattle.std.proofs.Common.{◌≡◌, ℕ, ◌⊎◌, ◌↔◌, Bool, true, false, not, IsTrue, List, refl, sym, subst, ◌∙◌, inl, inr, arith}
 use mathlib.Core.Bool.{false≢true}
-use Rattle.std.specs.List.{Any, Contains}
+use Rattle.std.specs.List.{Any}
 use Rattle.std.proofs.lemmas.Bool.{cases_lt, true≢false}
 use Rattle.media_db.specs.declared.records.Record.{Record}
 use Rattle.media_db.specs.declared.records.RecordState.TheVariants.{Complete}
-use Rattle.media_db.specs.Rows.{AreRecords, find_record}
+use Rattle.media_db.specs.Rows.{AreRecords}
 use Rattle.dep_chain.specs.declared.open_set.OpenSet.{OpenSet}
 use Rattle.dep_chain.specs.Depends.{StandsOn}
-use Rattle.dep_chain.specs.Need.{IsOpen}
 use Rattle.dep_chain.specs.Purging.{HasComplete, IsBrowsed, IsPurgeable, StaysBrowsed}
 use Rattle.dep_chain.proofs.Depending.{found_ssid}
 use Rattle.dep_chain.proofs.Listed.{listed, found}

@@ -1,7 +1,7 @@
 -- The sets without a mark are those that can be purged.
-use Rattle.std.proofs.Common.{◌≡◌, ◌≢◌, ℕ, zero, suc, ◌+◌, ◌<◌, ◌≤◌, ◌⊎◌, ◌↔◌, Bool, true, false, List, [], ◌∷◌, ◌++◌, Some, None, Result, Ok, Err, IfOk, length, get_or, refl, sym, subst, ap, ◌∙◌, inl, inr, arith}
+use Rattle.std.proofs.Common.{◌≡◌, ℕ, suc, ◌+◌, ◌<◌, ◌⊎◌, Bool, true, false, List, [], ◌∷◌, ◌++◌, Result, Ok, Err, IfOk, length, get_or, refl, sym, subst, ap, ◌∙◌, inl, inr, arith}
 use mathlib.Core.Bool.{false≢true}
-use Rattle.std.specs.List.{Any, Contains}
+use Rattle.std.specs.List.{Contains}
 use Rattle.std.specs.Ordering.{nat_cmp}
 use Rattle.std.proofs.lemmas.Bool.{cases_lt}
 use Rattle.std.proofs.lemmas.List.Elements.{Contains-append_left, Contains-append_right, Contains-append_cases}
@@ -10,12 +10,12 @@ use Rattle.room_base.specs.Ordered.{Ascends, AscendsFrom}
 use Rattle.room_base.proofs.OrderedNumbers.{compares_less}
 use Rattle.media_db.specs.declared.records.Record.{Record}
 use Rattle.media_db.specs.declared.records.RecordState.TheVariants.{Complete}
-use Rattle.media_db.specs.Rows.{AreRecords, find_record}
+use Rattle.media_db.specs.Rows.{AreRecords}
 use Rattle.dep_chain.specs.declared.open_set.OpenSet.{OpenSet}
 use Rattle.dep_chain.specs.Purging.{AreThePurgeable, IsPurgeable, ssid_number}
-use Rattle.dep_chain.specs.Marks.{AreMarks, AreUnmarked, IsAt, IsMarked, IsUnmarked, StaysUnder}
+use Rattle.dep_chain.specs.Marks.{AreMarks, AreUnmarked, IsAt, IsUnmarked, StaysUnder}
 use Rattle.dep_chain.proofs.Depending.{found_ssid}
-use Rattle.dep_chain.proofs.Listed.{found, higher_at, same_at}
+use Rattle.dep_chain.proofs.Listed.{found, higher_at, in_one, same_at}
 use Rattle.dep_chain.proofs.Marking.{at_found, found_at}
 use Rattle.dep_chain.proofs.Purges.{is_purgeable, not_both}
 
@@ -35,10 +35,6 @@ from_more x low (y ∷ ys) up below each = (
 ascends_more : (x : Ssid) (xs : List Ssid) → Ascends nat_cmp ssid_number xs → ((y : Ssid) → Contains xs y → y.0 < x.0) → Ascends nat_cmp ssid_number (xs ++ x ∷ [])
 ascends_more x [] up each = tt
 ascends_more x (y ∷ ys) up each = from_more x y.0 ys up (each y (0, omega arith, refl)) (λ z is. let within = is.1 in each z (suc is.0, omega (arith, within), is.2))
-
-one_of : (x y : Ssid) (k : ℕ) → k < length (x ∷ []) → get_or (x ∷ []) k y ≡ y → x ≡ y
-one_of x y zero within is = is
-one_of x y (suc k) within is = absurd (omega arith)
 
 module _ (rows : List Record) (are : AreRecords rows) (marks : List Bool) where
   wider : (at : ℕ) (ssid : Ssid) → IsUnmarked rows marks at ssid → IsUnmarked rows marks (at + 1) ssid
@@ -69,7 +65,7 @@ module _ (rows : List Record) (are : AreRecords rows) (marks : List Bool) where
             subst (λ (s : Ssid). s.0 < row.ssid.0) one.is up);
         only = λ ssid is. elim (Contains-append_cases ssids (row.ssid ∷ []) ssid is) [
           | inl was ↦ wider at ssid (before.only ssid was)
-          | inr new ↦ record { place = at; row = row; before = omega arith; at = here; is = one_of row.ssid ssid new.0 new.1 new.2; complete = complete; free = free }
+          | inr new ↦ record { place = at; row = row; before = omega arith; at = here; is = in_one row.ssid ssid new.0 new.1 new.2; complete = complete; free = free }
         ];
         all = λ ssid is. elim (before_or_at at row ssid within read is) [
           | inl was ↦ Contains-append_left ssids (row.ssid ∷ []) ssid (before.all ssid was)

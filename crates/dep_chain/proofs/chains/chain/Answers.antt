@@ -1,5 +1,4 @@
-use Rattle.std.proofs.Common.{List, [], ◌∷◌, ◌++◌, append_assoc}
-use Rattle.room_base.specs.declared.numbers.Ssid.{Ssid}
+use Rattle.std.proofs.Common.{[], ◌∷◌, append_assoc}
 use Rattle.dep_chain.specs.Chains.{alone, based, lower}
 use Rattle.dep_chain.proofs.chains.chain.Goals as goal
 

@@ -1,4 +1,4 @@
-use Rattle.std.proofs.Common.{◌≡◌, ◌+◌, ◌∷◌, ◌++◌, [], length, length-append, arith}
+use Rattle.std.proofs.Common.{length-append, arith}
 use Rattle.dep_chain.proofs.Marking.{own_more}
 use Rattle.dep_chain.proofs.marks.own_marks.Goals as goal
 

@@ -1,4 +1,4 @@
-use Rattle.dep_chain.proofs.Purges.{purgeable_by, purgeable_complete}
+use Rattle.dep_chain.proofs.Purges.{purgeable_by}
 use Rattle.dep_chain.proofs.purging.purgeable.Goals as goal
 
 pub returns-then-has_complete : goal.returns-then-has_complete
