@@ -7,4 +7,6 @@ use Rattle.dep_chain.proofs.labelling.may_label.Given as goal
 -- each needed set that was passed has a copy elsewhere where it has a section on the volume
 abbrev pub invariant-loop-row : goal.invariant-loop-row
 invariant-loop-row l =
-    AllWithin (λ (row : Record). RowLiesOn l.sessions l.volid.0 row → Needed l.db.records l.sessions l.moment.0 row.ssid.0 → Any (IsDoneOff l.volid.0) row.copies) l.db.records 0 l.row-index
+    AllWithin (λ (row : Record). RowLiesOn l.sessions l.volid.0 row
+    → Needed l.db.records l.sessions l.moment.0 row.ssid.0
+    → Any (IsDoneOff l.volid.0) row.copies) l.db.records 0 l.row-index

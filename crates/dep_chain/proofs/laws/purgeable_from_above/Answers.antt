@@ -6,6 +6,7 @@ returns c = λ rows sessions moment ssid user row is depends found complete. rec
   row = row;
   found = found;
   complete = complete;
-  browsed = λ other of_other on there too. is.browsed other of_other (stands_onward rows other user ssid on depends) there too;
+  browsed = λ other of_other on there too. is.browsed other of_other
+      (stands_onward rows other user ssid on depends) there too;
   closed = λ other on. is.closed other (stands_onward rows other user ssid on depends);
 }
