@@ -9,6 +9,7 @@ use Rattle.media_db.specs.declared.records.Record.{Record}
 use Rattle.media_db.specs.Rows.{AreRecords}
 use Rattle.dep_chain.specs.declared.open_set.OpenSet.{OpenSet}
 use Rattle.dep_chain.specs.Need.{AreSessions, Needed}
+use Rattle.dep_chain.specs.Labelling.{RowAllows, RowForbids}
 use Rattle.dep_chain.specs.Labelling.{Forbids, HasCopyOff, HasSectionOn, IsDoneOff, IsLabelAnswer}
 use Rattle.dep_chain.specs.Labelling.{IsWrittenOn, RowLiesOn}
 use Rattle.dep_chain.proofs.Depending.{found_ssid}
@@ -18,12 +19,10 @@ use Rattle.dep_chain.proofs.Needing.{open_listed}
 module _ (rows : List Record) (sessions : List OpenSet) (volid moment : ℕ) (are : AreRecords rows)
     (each : AreSessions rows sessions) where
   abbrev pub Allows : Record → Type 0
-  Allows row = RowLiesOn sessions volid row → Needed rows sessions moment row.ssid.0
-      → Any (IsDoneOff volid) row.copies
+  Allows = RowAllows rows sessions volid moment
 
   abbrev pub ForbidsIt : Record → Type 0
-  ForbidsIt row = RowLiesOn sessions volid row × Needed rows sessions moment row.ssid.0
-      × (¬ Any (IsDoneOff volid) row.copies)
+  ForbidsIt = RowForbids rows sessions volid moment
 
   pub none_forbids : (at : ℕ) → AllWithin Allows rows 0 at
       → AllWithin (λ row. ¬ ForbidsIt row) rows 0 at
@@ -87,19 +86,17 @@ module _ (rows : List Record) (sessions : List OpenSet) (volid moment : ℕ) (ar
       )
 
   pub least_forbids : (at : ℕ) (row : Record) → AllWithin Allows rows 0 at → at < length rows
-      → row ≡ get_or rows at row → RowLiesOn sessions volid row
-      × (¬ Any (IsDoneOff volid) row.copies) → Needed rows sessions moment row.ssid.0
+      → row ≡ get_or rows at row → ForbidsIt row
       → IsLabelAnswer rows sessions volid moment (Err row.ssid)
-  least_forbids at row allows within read on needed =
-      let forbids : ForbidsIt row = (on.0, needed, on.1) in (
-        row_forbids row (at, within, sym read) forbids,
-        λ ssid other.
-            let has = forbid_listed ssid other in
-            let upto = first_is_least ForbidsIt rows at (none_forbids at allows) are row within read
-            has.0 has.1 has.3 in
-            let is = has.2 in
-            omega (arith, upto, is),
-      )
+  least_forbids at row allows within read forbids = (
+    row_forbids row (at, within, sym read) forbids,
+    λ ssid other.
+        let has = forbid_listed ssid other in
+        let none = none_forbids at allows in
+        let upto = first_is_least ForbidsIt rows at none are row within read has.0 has.1 has.3 in
+        let is = has.2 in
+        omega (arith, upto, is),
+  )
 
   pub all_allow : (at : ℕ) (done : Unit {0}) → AllWithin Allows rows 0 at → length rows ≤ at
       → IsLabelAnswer rows sessions volid moment (Ok done)
@@ -118,6 +115,11 @@ pub only_on : {On Off : Type 0} (off : Bool) → On → (IsTrue off ↔ Off)
     → MatchBool (not off) (On × (¬ Off)) (On → Off)
 only_on true on iff = λ _. iff.0 refl
 only_on false on iff = (on, λ has. absurd (false≢true (iff.1 has)))
+
+pub forbids_by : {On Off Need : Type 0} (needed : Bool) → On × (¬ Off) → (IsTrue needed ↔ Need)
+    → MatchBool needed (On × Need × (¬ Off)) (On → Need → Off)
+forbids_by true on iff = (on.0, iff.0 refl, on.1)
+forbids_by false on iff = λ has need. absurd (false≢true (iff.1 need))
 
 -- one more record that allows it
 pub more_allow : (P : Record → Type 0) (rows : List Record) (at : ℕ) (row : Record)

@@ -162,23 +162,24 @@ module _ (rows : List Record) (are : AreRecords rows) (sessions : List OpenSet) 
               (record { row = row; found = there; named = sym same; set = some })
         ];
         own = λ place other is stays. base.grown place (before.own place other is stays);
-        passed = λ place lower other under above is now is_under has. elim (same_or_other place at) [
-          | inl same ↦
-              let is_here : get_or rows at other ≡ other = subst
-              (λ (k : ℕ). get_or rows k other ≡ other) same is.is in
-              let one = ap (λ (r : Record). r.base.0)
-              (same_at rows at other row here.within is_here here.is) in
-              base.marked lower under is_under (has ∙ one)
-          | inr not ↦ elim (base.only place other is now) [
-            | inl was ↦
-                let higher : next ≤ place = omega (arith, above, not, step) in
-                base.grown lower (before.passed place lower other under higher is was is_under has)
-            | inr same ↦
-                let strictly : at < place = omega (arith, above, not) in
-                let up = higher_at rows at place row other are strictly is.within here.is is.is in
-                absurd (omega (arith, up, same, low))
-          ]
-        ];
+        passed = λ place lower other under above is now is_under has.
+            elim (same_or_other place at) [
+              | inl same ↦
+                  let is_here : get_or rows at other ≡ other = subst
+                  (λ (k : ℕ). get_or rows k other ≡ other) same is.is in
+                  let one = ap (λ (r : Record). r.base.0)
+                  (same_at rows at other row here.within is_here here.is) in
+                  base.marked lower under is_under (has ∙ one)
+              | inr not ↦ elim (base.only place other is now) [
+                | inl was ↦
+                    let higher : next ≤ place = omega (arith, above, not, step) in
+                    base.grown lower (before.passed place lower other under higher is was is_under has)
+                | inr same ↦
+                    let strictly : at < place = omega (arith, above, not) in
+                    let up = higher_at rows at place row other are strictly is.within here.is is.is in
+                    absurd (omega (arith, up, same, low))
+              ]
+            ];
       }
 
   -- ---- in the end
@@ -270,8 +271,10 @@ module _ (rows : List Record) (sessions : List OpenSet) (moment : ℕ) where
             let last : get_or (marks ++ mark ∷ []) place false ≡ mark = subst
             (λ (k : ℕ). get_or (marks ++ mark ∷ []) k false ≡ mark) (lengths ∙ sym same)
             (get_or-append_seam marks mark [] false) in (
-              λ marked. subst (λ (r : Record). Stays sessions moment r) one (iff.0 (sym last ∙ marked)),
-              λ stays. last ∙ iff.1 (subst (λ (r : Record). Stays sessions moment r) (sym one) stays),
+              λ marked.
+                  subst (λ (r : Record). Stays sessions moment r) one (iff.0 (sym last ∙ marked)),
+              λ stays.
+                  last ∙ iff.1 (subst (λ (r : Record). Stays sessions moment r) (sym one) stays),
             )
         | inr not ↦
             let under : place < at = omega (arith, below, not) in

@@ -66,7 +66,8 @@ module _ (rows : List Record) (sessions : List OpenSet) (moment : ℕ) (are : Ar
     pub open_listed : (ssid : ℕ) → IsOpen sessions ssid → (row : Record) × Contains rows row
         × (row.ssid.0 ≡ ssid)
     open_listed ssid session =
-        let has = each_in (HasRecord rows) sessions session.0 session.1 each session.2 session.3 in (
+        let has =
+        each_in (HasRecord rows) sessions session.0 session.1 each session.2 session.3 in (
           has.row,
           listed rows session.1.ssid.0 has.row has.found,
           found_ssid rows session.1.ssid.0

@@ -48,6 +48,15 @@ pub record Forbids (rows : List Record) (sessions : List OpenSet) (volid moment 
   pub on : HasSectionOn rows sessions volid ssid
   pub none_off : ¬ HasCopyOff rows volid ssid
 
+-- the set of a record is needed and lies on the volume alone; and the contrary
+abbrev pub RowForbids : List Record → List OpenSet → ℕ → ℕ → Record → Type 0
+RowForbids rows sessions volid moment row = RowLiesOn sessions volid row
+    × Needed rows sessions moment row.ssid.0 × (¬ Any (IsDoneOff volid) row.copies)
+
+abbrev pub RowAllows : List Record → List OpenSet → ℕ → ℕ → Record → Type 0
+RowAllows rows sessions volid moment row = RowLiesOn sessions volid row
+    → Needed rows sessions moment row.ssid.0 → Any (IsDoneOff volid) row.copies
+
 -- Each needed set that has a section on the volume has a copy elsewhere; or this is the least one
 -- that hasn't.
 abbrev pub IsLabelAnswer : List Record → List OpenSet → ℕ → ℕ → Result (Unit {0}) Ssid → Type 0

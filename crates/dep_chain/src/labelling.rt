@@ -3,7 +3,7 @@
 ghost use Rattle.std.specs.Prelude.{◌≡◌, ◌↔◌, ◌≤◌, IsTrue, MatchBool};
 ghost use Rattle.std.specs.List.{Any};
 ghost use Rattle.dep_chain.specs.Labelling.{IsDoneOff, IsDoneOn, IsLabelAnswer, IsWrittenOn};
-ghost use Rattle.dep_chain.specs.Labelling.{LiesOn, RowLiesOn};
+ghost use Rattle.dep_chain.specs.Labelling.{LiesOn, RowAllows, RowForbids, RowLiesOn};
 ghost use Rattle.dep_chain.specs.Need.{AreSessions};
 
 use crate::OpenSet;
@@ -24,11 +24,22 @@ pub fn may_label(
     ensures { IsLabelAnswer db.now.records sessions.now volid.0 moment.0 result }
 {
     for row in db.records() {
-        if lies_only_on(sessions, row, volid) && needed(db, sessions, row.ssid, moment) {
+        if forbids(db, sessions, row, volid, moment) {
             return Err(row.ssid);
         }
     }
     Ok(())
+}
+
+// The set is needed, and has a section on the volume and no done copy without one.
+fn forbids(db: &MediaDb, sessions: &[OpenSet], row: &Record, volid: Volid, moment: Moment) -> bool
+    requires sessions { AreSessions db.now.records sessions.now }
+    requires moment { moment.0 ≤ MAX_MOMENT.0 }
+    ensures { MatchBool result
+        (RowForbids db.now.records sessions.now volid.0 moment.0 row.now)
+        (RowAllows db.now.records sessions.now volid.0 moment.0 row.now) }
+{
+    lies_only_on(sessions, row, volid) && needed(db, sessions, row.ssid, moment)
 }
 
 // The set has a section on the volume, and no done copy without one.

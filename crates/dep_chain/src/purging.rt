@@ -1,7 +1,8 @@
 //! Which save sets can be purged.
 
-ghost use Rattle.std.specs.Prelude.{◌≡◌, ◌↔◌, ◌≤◌, ◌⊎◌, IfOk, IsTrue, length};
+ghost use Rattle.std.specs.Prelude.{◌≡◌, ◌↔◌, ◌≤◌, ◌⊎◌, false, IfOk, IsTrue, length};
 ghost use Rattle.std.specs.List.{Any};
+ghost use Rattle.media_db.specs.declared.records.RecordState.TheVariants.{Complete};
 ghost use Rattle.media_db.specs.Rows.{AreRecords};
 ghost use Rattle.dep_chain.specs.Depends.{StandsOn};
 ghost use Rattle.dep_chain.specs.Marks.{AreUnmarked};
@@ -54,11 +55,17 @@ fn unmarked_sets(alloc: Global, records: &[Record], marks: &[bool]) -> Result<Ve
 {
     let mut ssids = Vec::new(alloc);
     for (place, row) in records.iter().enumerate() {
-        if is_complete(row) && !marks[place] {
+        if is_unmarked(row, marks[place]) {
             ssids.push(row.ssid)?;
         }
     }
     Ok(ssids)
+}
+
+fn is_unmarked(row: &Record, marked: bool) -> bool
+    ensures { IsTrue result ↔ ((row.now.state ≡ Complete) × (marked ≡ false)) }
+{
+    is_complete(row) && !marked
 }
 
 // The set has a complete record.
