@@ -37,8 +37,7 @@ module _ (rows : List Record) (sessions : List OpenSet) (volid moment : ℕ) (ar
       copy.0,
       listed rows ssid copy.0 copy.1,
       found_ssid rows ssid copy.0 copy.1,
-      inl
-          copy.2,
+      inl copy.2,
     )
     | inr written ↦
         let has = open_listed rows sessions moment are each ssid

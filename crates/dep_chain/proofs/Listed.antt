@@ -62,11 +62,13 @@ pub place_order : (rows : List Record) (i k : ℕ) (one other : Record) → AreR
     → i < length rows → k < length rows → get_or rows i one ≡ one → get_or rows k other ≡ other
     → one.ssid.0 ≡ other.ssid.0 → i ≡ k
 place_order rows i k one other are in_i in_k at_one at_other same = elim (cases_lt i k) [
-  | inl below ↦ let up = higher_at rows i k one other are below in_k at_one at_other in absurd
-      (omega (arith, up, same))
+  | inl below ↦
+      let up = higher_at rows i k one other are below in_k at_one at_other in
+      absurd (omega (arith, up, same))
   | inr above ↦ elim (cases_lt k i) [
-    | inl under ↦ let up = higher_at rows k i other one are under in_i at_other at_one in absurd
-        (omega (arith, up, same))
+    | inl under ↦
+        let up = higher_at rows k i other one are under in_i at_other at_one in
+        absurd (omega (arith, up, same))
     | inr upto ↦ omega (arith, above, upto)
   ]
 ]

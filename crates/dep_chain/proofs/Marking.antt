@@ -79,8 +79,8 @@ module _ (rows : List Record) (are : AreRecords rows) where
         ];
         marked = λ other row at has.
             let there = get_or rows place row in
-            let is_there : get_or rows place there ≡ there = get_default rows place there row within
-            in
+            let is_there : get_or rows place there ≡ there =
+            get_default rows place there row within in
             let key = equal_numbers there.ssid.0 base (is.1 row) in
             let same = place_order rows other place row there are at.within within at.is is_there
             (has ∙ sym key) in
@@ -127,8 +127,8 @@ module _ (rows : List Record) (are : AreRecords rows) (sessions : List OpenSet) 
     sound = λ place row at marked. own_stays rows are sessions moment place row at
         ((own place row at.within at).0 marked);
     own = λ place row at stays. (own place row at.within at).1 stays;
-    passed = λ place other row base above at marked there is. let within = at.within in absurd
-        (omega (arith, above, within));
+    passed = λ place other row base above at marked there is. let within = at.within in
+        absurd (omega (arith, above, within));
   }
 
   pub unmarked_passed : (next at : ℕ) (marks : List Bool) → at + 1 ≡ next
@@ -139,8 +139,9 @@ module _ (rows : List Record) (are : AreRecords rows) (sessions : List OpenSet) 
     own = before.own;
     passed = λ place other row base above is marked there has. elim (same_or_other place at) [
       | inl same ↦ absurd (false≢true (sym free ∙ subst (λ (k : ℕ). IsMarked marks k) same marked))
-      | inr not ↦ let higher : next ≤ place = omega (arith, above, not, step) in before.passed place
-          other row base higher is marked there has
+      | inr not ↦
+          let higher : next ≤ place = omega (arith, above, not, step) in
+          before.passed place other row base higher is marked there has
     ];
   }
 
@@ -173,10 +174,12 @@ module _ (rows : List Record) (are : AreRecords rows) (sessions : List OpenSet) 
               | inr not ↦ elim (base.only place other is now) [
                 | inl was ↦
                     let higher : next ≤ place = omega (arith, above, not, step) in
-                    base.grown lower (before.passed place lower other under higher is was is_under has)
+                    let had = before.passed place lower other under higher is was is_under has in
+                    base.grown lower had
                 | inr same ↦
                     let strictly : at < place = omega (arith, above, not) in
-                    let up = higher_at rows at place row other are strictly is.within here.is is.is in
+                    let up =
+                    higher_at rows at place row other are strictly is.within here.is is.is in
                     absurd (omega (arith, up, same, low))
               ]
             ];

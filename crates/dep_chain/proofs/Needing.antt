@@ -28,8 +28,7 @@ module _ (rows : List Record) (sessions : List OpenSet) (moment : ℕ) (are : Ar
   needed_by_record ssid by = (
     by.1.ssid.0,
     by.4.1,
-    inl
-        (by.1, found rows by.1 are (by.0, by.2, by.3), by.4.0),
+    inl (by.1, found rows by.1 are (by.0, by.2, by.3), by.4.0),
   )
 
   pub needed_by_session : (ssid : ℕ) → Any (OpenFor ssid) sessions
@@ -81,8 +80,7 @@ module _ (rows : List Record) (sessions : List OpenSet) (moment : ℕ) (are : Ar
         kept.0,
         listed rows ssid kept.0 kept.1,
         found_ssid rows ssid kept.0 kept.1,
-        inl
-            kept.2,
+        inl kept.2,
       )
       | inr session ↦
           let has = open_listed ssid session in
@@ -107,8 +105,8 @@ module _ (rows : List Record) (sessions : List OpenSet) (moment : ℕ) (are : Ar
       (depends, row_needs row (at, within, sym read) needs),
       λ user uses.
           let has = use_listed ssid user uses in
-          let upto = first_is_least (UsesIt ssid) rows at none are row within read has.0 has.1 has.3
-          in
+          let upto =
+          first_is_least (UsesIt ssid) rows at none are row within read has.0 has.1 has.3 in
           let is = has.2 in
           omega (arith, upto, is),
     )

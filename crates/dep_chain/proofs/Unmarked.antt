@@ -151,8 +151,7 @@ module _ (rows : List Record) (are : AreRecords rows) (marks : List Bool) where
           (λ by. free (record {
             user = by.1.ssid.0;
             on = by.4.1;
-            stays = inl
-                (by.1, found rows by.1 are (by.0, by.2, by.3), by.4.0);
+            stays = inl (by.1, found rows by.1 are (by.0, by.2, by.3), by.4.0);
           }))
           (λ by. free (record {
             user = by.1.ssid.0;

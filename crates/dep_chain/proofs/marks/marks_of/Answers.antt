@@ -18,8 +18,8 @@ loop-at-preserved-then-index c =
     let some = c.loop-at-test.true in
     let step : c.loop-at.at - 1 + 1 ≡ c.loop-at.at = omega (arith, some) in
     let each = c.loop-at.invariant.each in
-    let inside : c.loop-at.at - 1 < length c.loop-at.marks.items = omega (arith, within, some, each)
-    in
+    let inside : c.loop-at.at - 1 < length c.loop-at.marks.items =
+    omega (arith, within, some, each) in
     let rows = c.args.records.now in
     let old = c.loop-at.marks.items in
     let new = c.mark_base.new.marks.items in
