@@ -1,0 +1,6 @@
+pub mod Chains
+pub mod Depends
+pub mod Labelling
+pub mod Marks
+pub mod Need
+pub mod Purging
