@@ -1,5 +1,5 @@
 -- How `put` and `get` end, by what their stages have answered.
-use Rattle.std.proofs.Common.{◌≡◌, ◌∙◌, ◌++◌, ℕ, ◌≤◌, List, [], length, Ok, refl, sym, subst, inl, inr, ◌⊎◌, arith}
+use Rattle.std.proofs.Common.{◌≡◌, ℕ, ◌≤◌, List, [], length, Ok, refl, sym, subst, inl, inr, arith}
 use Rattle.room_base.specs.Faults.{Rose}
 use Rattle.room_base.specs.Outside.{ClockView, Told}
 use Rattle.room_base.specs.declared.numbers.Cart.{Cart}

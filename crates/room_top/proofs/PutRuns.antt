@@ -1,5 +1,5 @@
 -- What storing a file on a raw cartridge leaves.
-use Rattle.std.proofs.Common.{◌≡◌, ◌∙◌, ◌+◌, ◌-◌, ◌*◌, ◌/◌, ◌%◌, ◌≤◌, ℕ, min, List, [], length, Err, refl, sym, ap, subst, inl, inr, arith}
+use Rattle.std.proofs.Common.{◌≡◌, ◌∙◌, ◌+◌, ◌*◌, ◌/◌, ◌%◌, ◌≤◌, ℕ, min, List, [], length, refl, sym, ap, subst, inl, inr, arith}
 use Rattle.std.specs.Int.{div_ceil}
 use Rattle.std.proofs.lemmas.Bool.{cases_lt}
 use Rattle.std.proofs.lemmas.Grind.{div_ceil_times}
@@ -13,9 +13,9 @@ use Rattle.volume_block.specs.Region.{IsSealed}
 use Rattle.volume_block.proofs.Forms.{units_range}
 use Rattle.volume_block.specs.declared.label.Label.{Label}
 use Rattle.volume_store.specs.Committed.{CommittedFile, Committed}
-use Rattle.volume_store.specs.Writes.{cart_file, added_file, with_file, IsWholeOrAbsent}
+use Rattle.volume_store.specs.Writes.{added_file, with_file, IsWholeOrAbsent}
 use Rattle.room_top.specs.Raw.{IsRawCartridge, JoinTo}
-use Rattle.room_top.specs.Put.{HasOneFileMore, IsNewLabel, IsOccupied, IsPut, IsFirstFile, IsSite, IsSiteFor, HasRoom, blocks_for, site_units, site_number, site_mark, site_volid}
+use Rattle.room_top.specs.Put.{HasOneFileMore, IsNewLabel, IsOccupied, IsPut, IsFirstFile, IsSiteFor, HasRoom, blocks_for, site_units, site_number, site_mark, site_volid}
 use Rattle.room_top.specs.declared.site.Site.{Site}
 use Rattle.room_top.specs.declared.site.Site.TheVariants as sites
 

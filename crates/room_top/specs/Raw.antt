@@ -1,5 +1,5 @@
 -- Raw cartridges, which hold files of bytes and no save sets.
-use Rattle.std.specs.Prelude.{◌≡◌, ◌⊎◌, ℕ, ◌+◌, ◌*◌, ◌≤◌, ◌<◌, ◌^◌, List, ◌∷◌, ◌++◌, length, map}
+use Rattle.std.specs.Prelude.{◌≡◌, ◌⊎◌, ℕ, ◌+◌, ◌*◌, ◌<◌, ◌^◌, List, ◌∷◌, ◌++◌, length, map}
 use Rattle.std.specs.Prelude.{replicate}
 use Rattle.volume_block.specs.Chunks.{ChunkText, all_chunks, JoinFrom, joined}
 use Rattle.volume_block.specs.Valid.{IsRaw}

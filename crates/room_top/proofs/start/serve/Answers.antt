@@ -1,4 +1,4 @@
-use Rattle.std.proofs.Common.{rules, ◌≤◌, ℕ, List, inl, map, string_bytes, subst, Ok, Err}
+use Rattle.std.proofs.Common.{rules, ℕ, List, inl, map, string_bytes, subst, Ok, Err}
 use Rattle.room_base.specs.Outside.{SinkView}
 use Rattle.room_top.specs.Run.{Ends}
 use Rattle.room_top.specs.Start.{SystemFaults, system}

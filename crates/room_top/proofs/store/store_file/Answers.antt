@@ -1,9 +1,7 @@
-use Rattle.std.proofs.Common.{◌≡◌, ◌∙◌, ℕ, length, sym, ap, subst, arith}
-use Rattle.chunk_mux.specs.Packing.{empty, Fits}
-use Rattle.volume_block.specs.Layout.{IsUnits}
+use Rattle.std.proofs.Common.{◌∙◌, length, sym, arith}
 use Rattle.volume_block.proofs.Forms.{units_range}
 use Rattle.room_top.specs.Put.{site_units}
-use Rattle.room_top.proofs.PutRuns.{has_room, some_blocks, fits_empty, site_has_units, is_file_of, sealed_for}
+use Rattle.room_top.proofs.PutRuns.{has_room, some_blocks, site_has_units, is_file_of, sealed_for}
 use Rattle.room_top.proofs.store.store_file.Goals as goal
 
 pub seal-region-requires-clause-some : goal.seal-region-requires-clause-some
