@@ -55,8 +55,8 @@ abbrev pub IsUpTo : Option Ssid → ℕ → Type 0
 IsUpTo None ssid = ⊥
 IsUpTo (Some least) ssid = least.0 ≤ ssid
 
--- where the set of a record has a section on the volume it has a copy elsewhere; or the least set so
--- far is at most it
+-- Where the set of a record has a section on the volume it has a copy elsewhere; or the least set
+-- so far is at most it.
 abbrev pub IsSettled : List OpenSet → ℕ → Option Ssid → Record → Type 0
 IsSettled sessions volid least row =
     (RowLiesOn sessions volid row → Any (IsDoneOff volid) row.copies) ⊎ IsUpTo least row.ssid.0
