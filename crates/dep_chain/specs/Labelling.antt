@@ -1,12 +1,14 @@
 -- Whether a volume may be labelled anew.
-use Rattle.std.specs.Prelude.{◌≡◌, ℕ, ◌≤◌, ◌⊎◌, List, Result, Ok, Err, Some}
-use Rattle.std.specs.List.{Any}
+use Rattle.std.specs.Prelude.{◌≡◌, ℕ, ◌≤◌, ◌⊎◌, List, Option, Result}
+use Rattle.std.specs.Prelude.{Ok, Err, Some, None}
+use Rattle.std.specs.List.{Any, Contains}
 use Rattle.room_base.specs.declared.numbers.Ssid.{Ssid}
 use Rattle.media_db.specs.declared.copies.CopyState.TheVariants.{Done}
 use Rattle.media_db.specs.declared.copies.SetCopy.{SetCopy}
 use Rattle.media_db.specs.declared.records.Record.{Record}
 use Rattle.media_db.specs.Rows.{find_record}
 use Rattle.dep_chain.specs.declared.open_set.OpenSet.{OpenSet}
+use Rattle.dep_chain.specs.Depends.{StandsOn}
 use Rattle.dep_chain.specs.Need.{Needed}
 
 -- a copy has a section on the volume
@@ -48,14 +50,31 @@ pub record Forbids (rows : List Record) (sessions : List OpenSet) (volid moment 
   pub on : HasSectionOn rows sessions volid ssid
   pub none_off : ¬ HasCopyOff rows volid ssid
 
--- the set of a record is needed and lies on the volume alone; and the contrary
-abbrev pub RowForbids : List Record → List OpenSet → ℕ → ℕ → Record → Type 0
-RowForbids rows sessions volid moment row = RowLiesOn sessions volid row
-    × Needed rows sessions moment row.ssid.0 × (¬ Any (IsDoneOff volid) row.copies)
+-- there is a least set so far, and it is at most this one
+abbrev pub IsUpTo : Option Ssid → ℕ → Type 0
+IsUpTo None ssid = ⊥
+IsUpTo (Some least) ssid = least.0 ≤ ssid
 
-abbrev pub RowAllows : List Record → List OpenSet → ℕ → ℕ → Record → Type 0
-RowAllows rows sessions volid moment row = RowLiesOn sessions volid row
-    → Needed rows sessions moment row.ssid.0 → Any (IsDoneOff volid) row.copies
+-- Where the set of a record has a section on the volume it has a copy elsewhere; or the least set
+-- so far is at most it.
+abbrev pub IsSettled : List OpenSet → ℕ → Option Ssid → Record → Type 0
+IsSettled sessions volid least row =
+    (RowLiesOn sessions volid row → Any (IsDoneOff volid) row.copies) ⊎ IsUpTo least row.ssid.0
+
+-- so it is of each set that this one stands on
+abbrev pub AreSettled : List Record → List OpenSet → ℕ → ℕ → Option Ssid → Type 0
+AreSettled rows sessions volid ssid least = (row : Record) → Contains rows row
+    → StandsOn rows ssid row.ssid.0 → IsSettled sessions volid least row
+
+-- a set that this one stands on lies on the volume alone
+pub record LiesUnder (rows : List Record) (sessions : List OpenSet) (volid ssid : ℕ)
+    (found : Ssid) : Type 0 where
+  pub row : Record
+  pub listed : Contains rows row
+  pub is : row.ssid ≡ found
+  pub under : StandsOn rows ssid row.ssid.0
+  pub on : RowLiesOn sessions volid row
+  pub none_off : ¬ Any (IsDoneOff volid) row.copies
 
 -- Each needed set that has a section on the volume has a copy elsewhere; or this is the least one
 -- that hasn't.

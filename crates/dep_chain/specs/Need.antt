@@ -41,6 +41,10 @@ KeepsItself rows moment ssid = (row : Record) × (find_record ssid rows ≡ Some
 abbrev pub Needs : List Record → List OpenSet → ℕ → ℕ → Type 0
 Needs rows sessions moment ssid = KeepsItself rows moment ssid ⊎ IsOpen sessions ssid
 
+-- the same of a record
+abbrev pub NeedsItself : List OpenSet → ℕ → Record → Type 0
+NeedsItself sessions moment row = IsKept moment row ⊎ IsOpen sessions row.ssid.0
+
 -- it, or a set that depends on it, is complete and unexpired, or has an open session
 abbrev pub Needed : List Record → List OpenSet → ℕ → ℕ → Type 0
 Needed rows sessions moment ssid =

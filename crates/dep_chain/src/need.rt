@@ -4,7 +4,7 @@ ghost use Rattle.std.specs.Prelude.{◌≡◌, ◌↔◌, ◌≤◌, ◌⊎◌, 
 ghost use Rattle.std.specs.List.{Any};
 ghost use Rattle.media_db.specs.Rows.{AreRecords};
 ghost use Rattle.dep_chain.specs.Depends.{Depends, StandsOn};
-ghost use Rattle.dep_chain.specs.Need.{AreSessions, IsKept, IsLeastUser, IsOpen, Needed};
+ghost use Rattle.dep_chain.specs.Need.{AreSessions, IsKept, IsLeastUser, Needed, NeedsItself};
 
 use crate::OpenSet;
 use crate::bases::{depends, has_session_on, stands_on};
@@ -49,9 +49,9 @@ fn is_kept_for(db: &MediaDb, records: &[Record], ssid: Ssid, moment: Moment) -> 
 }
 
 // The record is complete and unexpired, or its set has an open session.
-fn needs(sessions: &[OpenSet], row: &Record, moment: Moment) -> bool
+pub(crate) fn needs(sessions: &[OpenSet], row: &Record, moment: Moment) -> bool
     ensures { IsTrue result
-        ↔ (IsKept moment.0 row.now ⊎ IsOpen sessions.now row.now.ssid.0) }
+        ↔ NeedsItself sessions.now moment.0 row.now }
 {
     is_kept(row, moment) || is_open(sessions, row.ssid)
 }
