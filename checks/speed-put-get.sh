@@ -1,6 +1,7 @@
 #!/usr/bin/env bash
 # Measures put and get of 200 files of 257,024 bytes on one cartridge against copies, against passes of
-# sha256sum over the same bytes and against the start of a process, and prints a table. It counts the reads,
+# sha256sum over the same bytes and against the start of a process, and prints a table; and how many files of
+# 64 full data blocks are committed a second, of the least and of the largest ones. It counts the reads,
 # writes and syncs of single commands where strace is there, which are to be those that the design promises,
 # and their instructions where valgrind is there, which don't hang on what else the machine does. It is a
 # measure: only other bytes than were put, or other calls, make it fail. docs/performance.md tells what the
@@ -132,6 +133,33 @@ for name in "${names[@]}"; do
         $((wall[$name] / 1000)) $((wall[$name] % 1000)) $((cpu[$name] / 1000)) $((cpu[$name] % 1000)) \
         "$(ratio "put, all 200" "$name")" "$(ratio "get, all 200" "$name")"
 done
+
+# commits UNITS: how many files of 64 full data blocks of so many units are committed a second by the clock,
+# the most of all rounds, and their megabytes.
+commits_program=$top/crates/commit_speed/out/commit_speed
+commits() {
+    local files=40 least= began took
+    for _ in $(seq $rounds); do
+        rm -rf "commits"
+        mkdir "commits"
+        began=$(date +%s%N)
+        "$commits_program" commits "$1" $files || fail "commit_speed ended with $?"
+        took=$(($(date +%s%N) - began))
+        [ "${least:-$took}" -lt $took ] || least=$took
+    done
+    awk -v units="$1" -v files=$files -v took="$least" 'BEGIN {
+        second = files * 1e9 / took
+        printf "%-34s %7.1f commits a second %7.1f MB a second\n",
+            "64 blocks of " units * 4096 " bytes", second, second * 64 * 4096 * units / 1e6 }'
+}
+[ -x "$commits_program" ] || (cd "$top/crates/commit_speed" && rt run) >/dev/null 2>&1
+if [ -x "$commits_program" ]; then
+    echo
+    commits 1
+    commits 16
+else
+    echo "speed-put-get: commits aren't measured, since commit_speed can't be built"
+fi
 
 head -c 1 files/1 >byte
 # instructions NAME WORD..: the instructions of a program as valgrind counts them, without those of the system.
