@@ -62,6 +62,7 @@ site_meant : (cart : ℕ) (before now : World) (bytes : List ℕ) (fault : SiteF
     → PutEnds cart before now (site_status cart fault)
 site_meant cart before now bytes site_faults.DiskFailed rest taken are disk clock judged writes = (disk refl, writes, rest.out)
 site_meant cart before now bytes site_faults.ClockFailed rest taken are disk clock judged writes = (clock refl, rest, taken, judged)
+site_meant cart before now bytes site_faults.BadLabel rest taken are disk clock judged writes = (rest, taken, λ told. inl (refl, refl, judged told))
 site_meant cart before now bytes (site_faults.Damaged volid block) rest taken are disk clock judged writes = (rest, taken, judged)
 site_meant cart before now bytes site_faults.Occupied rest taken are disk clock judged writes = ((refl, refl), rest, taken, judged)
 site_meant cart before now bytes site_faults.Full rest taken are disk clock judged writes =
@@ -156,6 +157,7 @@ file_meant : (cart : Cart) (number : ℕ) (before now : World) (fault : FileFaul
 file_meant cart number before now file_faults.Memory stays cause judged = stays
 file_meant cart number before now file_faults.Failed stays cause judged = (cause refl, stays)
 file_meant cart number before now file_faults.Unlabelled stays cause judged = (refl, stays, judged)
+file_meant cart number before now file_faults.BadLabel stays cause judged = (stays, λ told. inl (inl (refl, refl, judged told)))
 file_meant cart number before now (file_faults.Damaged volid block) stays cause judged = (stays, judged)
 file_meant cart number before now (file_faults.Strange volid) stays cause judged = (stays, judged)
 file_meant cart number before now file_faults.NoFile stays cause judged = ((refl, refl), stays, judged)

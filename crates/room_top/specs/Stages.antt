@@ -5,10 +5,11 @@ use Rattle.std.specs.Fmt.{decimal}
 use Rattle.room_base.specs.Outside.{later_moments}
 use Rattle.room_base.specs.declared.numbers.Cart.{Cart}
 use Rattle.room_base.specs.declared.numbers.Moment.{Moment}
+use Rattle.room_base.specs.declared.refusal.Refusal.{Refusal}
 use Rattle.room_base.specs.declared.refusal.Refusal.TheVariants as refusals
 use Rattle.volume_block.specs.declared.label.Label.{Label}
 use Rattle.volume_store.specs.Committed.{data_at, IsDataPlace, Damaged, CommittedFile, Committed}
-use Rattle.volume_store.specs.Committed.{Unlabelled}
+use Rattle.volume_store.specs.Committed.{Unlabelled, BadLabel}
 use Rattle.volume_store.specs.declared.marks.FilePlace.{FilePlace}
 use Rattle.room_top.specs.Raw.{IsFileOn, IsFirstDamaged, IsDamagedIn}
 use Rattle.room_top.specs.Raw.{LacksFile, IsDamagedAt, IsStrange}
@@ -58,6 +59,7 @@ input_status input_faults.TooLong = status.Refused (refusals.TooMany 257024)
 abbrev pub JudgesSite : ℕ → List ℕ → SiteFault → Type 0
 JudgesSite size before site_faults.DiskFailed = Unit {0}
 JudgesSite size before site_faults.ClockFailed = ¬ (IsOccupied before)
+JudgesSite size before site_faults.BadLabel = Committed before BadLabel
 JudgesSite size before (site_faults.Damaged volid block) = IsDamagedAt before volid.0 block
 JudgesSite size before site_faults.Occupied = (label : Label) × IsStrange before label
 JudgesSite size before site_faults.Full = IsFull size before
@@ -73,7 +75,12 @@ abbrev pub IsNext : Site → Type 0
 IsNext (sites.New label) = ⊥
 IsNext (sites.Next volume number) = Unit {0}
 
+-- the label is block 0, and nobody knows its volume
+abbrev pub bad_label_refusal : Refusal
+bad_label_refusal = refusals.DamagedBlock (record { 0 = 0 }) 0
+
 abbrev pub site_status : ℕ → SiteFault → Status
+site_status cart site_faults.BadLabel = status.Refused bad_label_refusal
 site_status cart site_faults.DiskFailed = status.DiskFault
 site_status cart site_faults.ClockFailed = status.ClockFault
 site_status cart (site_faults.Damaged volid block) =
@@ -89,6 +96,7 @@ abbrev pub JudgesFile : ℕ → List ℕ → FileFault → Type 0
 JudgesFile number disk file_faults.Memory = Unit {0}
 JudgesFile number disk file_faults.Failed = Unit {0}
 JudgesFile number disk file_faults.Unlabelled = Committed disk Unlabelled
+JudgesFile number disk file_faults.BadLabel = Committed disk BadLabel
 JudgesFile number disk (file_faults.Damaged volid block) =
     IsDamagedAt disk volid.0 block ⊎ IsDamagedIn disk number volid.0 block
 JudgesFile number disk (file_faults.Strange volid) =
@@ -96,6 +104,7 @@ JudgesFile number disk (file_faults.Strange volid) =
 JudgesFile number disk file_faults.NoFile = LacksFile disk number
 
 abbrev pub file_status : Cart → ℕ → FileFault → Status
+file_status cart number file_faults.BadLabel = status.Refused bad_label_refusal
 file_status cart number file_faults.Memory = status.Memory
 file_status cart number file_faults.Failed = status.DiskFault
 file_status cart number file_faults.Unlabelled = status.Refused (refusals.Unlabelled cart)

@@ -1,7 +1,9 @@
 //! The statuses of faults. A refusal has texts; where memory is too short for them, that is the
 //! status.
 
-ghost use Rattle.room_top.specs.Stages.{IsOrMemory, input_status, site_status, file_status};
+ghost use Rattle.std.specs.Prelude.{◌≡◌};
+ghost use Rattle.room_top.specs.Stages.{IsOrMemory, bad_label_refusal, input_status, site_status};
+ghost use Rattle.room_top.specs.Stages.{file_status};
 ghost use Rattle.room_top.specs.declared.get.FileFault.TheVariants as file_faults;
 ghost use Rattle.room_top.specs.declared.site.SiteFault.TheVariants as site_faults;
 
@@ -11,7 +13,7 @@ use crate::input::InputFault;
 use crate::raw::MAX_FILE_SIZE;
 use crate::site::SiteFault;
 use itoa::Buffer;
-use room_base::{Cart, Memory, Name, Refusal};
+use room_base::{Cart, Memory, Name, Refusal, Volid};
 use std::alloc::Global;
 
 /// The status of a `put` whose input isn't taken.
@@ -38,6 +40,7 @@ pub fn site_status_of(alloc: Global, cart: Cart, fault: SiteFault) -> Status
     match fault {
         SiteFault::DiskFailed => Status::DiskFault,
         SiteFault::ClockFailed => Status::ClockFault,
+        SiteFault::BadLabel => Status::Refused(bad_label()),
         SiteFault::Damaged { volid, block } => {
             Status::Refused(Refusal::DamagedBlock { volid, block })
         }
@@ -62,6 +65,16 @@ fn occupied(alloc: Global, cart: Cart) -> Status
     }
 }
 
+// The label isn't valid: it is block 0, and nobody knows its volume.
+fn bad_label() -> Refusal
+    ensures { result ≡ bad_label_refusal }
+{
+    Refusal::DamagedBlock {
+        volid: Volid(0),
+        block: 0,
+    }
+}
+
 /// The status of a `get` whose file isn't read.
 pub fn file_status_of(alloc: Global, cart: Cart, number: u64, fault: FileFault) -> Status
     ensures { IsOrMemory (file_status cart number fault) result }
@@ -70,6 +83,7 @@ pub fn file_status_of(alloc: Global, cart: Cart, number: u64, fault: FileFault) 
         FileFault::Memory => Status::Memory,
         FileFault::Failed => Status::DiskFault,
         FileFault::Unlabelled => Status::Refused(Refusal::Unlabelled { cart }),
+        FileFault::BadLabel => Status::Refused(bad_label()),
         FileFault::Damaged { volid, block } => {
             Status::Refused(Refusal::DamagedBlock { volid, block })
         }

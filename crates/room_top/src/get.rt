@@ -31,8 +31,9 @@ pub enum FileFault {
     Failed,
     /// The cartridge has no label.
     Unlabelled,
-    /// The label, volume 0 and block 0, a mark, or a data block of the file isn't valid, or isn't
-    /// there.
+    /// The label isn't valid.
+    BadLabel,
+    /// A mark, or a data block of the file, isn't valid, or isn't there.
     Damaged { volid: Volid, block: u64 },
     /// The label isn't raw.
     Strange { volid: Volid },
@@ -98,10 +99,7 @@ fn find_raw_label<D: Store>(cart: Cart, disk: &mut D) -> Result<Label, FileFault
     };
     match found {
         Found::Blank | Found::Closed => Err(FileFault::Unlabelled),
-        Found::Damaged(_) => Err(FileFault::Damaged {
-            volid: Volid(0),
-            block: 0,
-        }),
+        Found::Damaged(_) => Err(FileFault::BadLabel),
         Found::Labelled(label) if label.is_raw() => Ok(label),
         Found::Labelled(label) => Err(FileFault::Strange { volid: label.volid }),
     }
@@ -128,7 +126,7 @@ fn find_place<D: Store>(
         (IsPlaceOf ((D.view disk.old).reads (cart_file cart.0)) number label.now)
         (JudgesFile number ((D.view disk.old).reads (cart_file cart.0)))) }
 {
-    match walk_marks(disk, cart, label.volid, label.units, number) {
+    match walk_marks(disk, cart, label.volid, label.units, Some(number)) {
         Ok(walk) => match walk.wanted {
             Some(place) => Ok(place),
             None => Err(FileFault::NoFile),

@@ -33,7 +33,9 @@ pub enum Site {
 pub enum SiteFault {
     DiskFailed,
     ClockFailed,
-    /// The label, volume 0 and block 0, or a mark isn't valid, or isn't there.
+    /// The label isn't valid.
+    BadLabel,
+    /// A mark isn't valid, or isn't there.
     Damaged { volid: Volid, block: u64 },
     /// The cartridge has a label that isn't raw.
     Occupied,
@@ -116,10 +118,7 @@ pub fn find_site<D: Store, C: Clock>(
             Ok(label) => Ok(Site::New(label)),
             Err(_) => Err(SiteFault::ClockFailed),
         },
-        Found::Damaged(_) => Err(SiteFault::Damaged {
-            volid: Volid(0),
-            block: 0,
-        }),
+        Found::Damaged(_) => Err(SiteFault::BadLabel),
         Found::Labelled(label) => next_site(cart, &label, size, disk),
     }
 }
@@ -165,7 +164,7 @@ fn next_site<D: Store>(
     if !label.is_raw() {
         return Err(SiteFault::Occupied);
     }
-    let walk = match walk_marks(disk, cart, label.volid, label.units, 0) {
+    let walk = match walk_marks(disk, cart, label.volid, label.units, None) {
         Ok(walk) => walk,
         Err(WalkFault::BadMark { number }) => {
             return Err(SiteFault::Damaged {

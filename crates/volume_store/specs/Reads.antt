@@ -1,6 +1,6 @@
 -- What is read of a cartridge: its label, its marks, its blocks.
 use Rattle.std.specs.Prelude.{◌≡◌, ◌≢◌, ◌⊎◌, ℕ, ◌+◌, ◌*◌, ◌≤◌, ◌<◌, List, ◌∷◌, ◌++◌, length}
-use Rattle.std.specs.Prelude.{slice_index, Result, Ok, Err, Option, MatchOption}
+use Rattle.std.specs.Prelude.{slice_index, Result, Ok, Err, Option, Some, None, MatchOption}
 use Rattle.room_disk.specs.Disk.{DiskView, Settled}
 use Rattle.volume_block.specs.Valid.{IsLabel, ValidBlock, size_of}
 use Rattle.volume_block.specs.Why.{Why, TellsSize, volid_in}
@@ -138,6 +138,11 @@ pub record IsFile (files : List CommittedFile) (number : ℕ) (place : FilePlace
 abbrev pub IsWanted : List CommittedFile → ℕ → Option FilePlace → Type 0
 IsWanted files number place =
     MatchOption place ((number ≡ 0) ⊎ (length files < number)) (IsFile files number)
+
+-- the number of the file that is asked for, where there is one: no file has number 0
+abbrev pub asked_number : Option ℕ → ℕ
+asked_number None = 0
+asked_number (Some number) = number
 
 -- A walk over the marks that has come to a mark place: the files before it, whatever comes behind.
 pub record HasWalked (bytes : List ℕ) (volid units number : ℕ) (walk : MarkWalk) : Type 0 where

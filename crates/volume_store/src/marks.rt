@@ -9,6 +9,7 @@ ghost use Rattle.volume_block.specs.Valid.{IsLabel};
 ghost use Rattle.volume_store.specs.Committed.{block_at};
 ghost use Rattle.volume_store.specs.Writes.{cart_file, IsCart};
 ghost use Rattle.volume_store.specs.Reads.{FindsMark, HasCount, Walks, HasRange, Mounts};
+ghost use Rattle.volume_store.specs.Reads.{asked_number};
 ghost use Rattle.volume_store.specs.Reads.{SettlesUnlessFailed};
 ghost use Rattle.volume_store.specs.declared.marks.MountFault.TheVariants as mounts;
 ghost use Rattle.volume_store.specs.declared.marks.WalkFault.TheVariants as walks;
@@ -119,7 +120,7 @@ pub fn mount<D: Store>(store: &mut D, cart: Cart) -> Result<Volume, MountFault>
         Found::Damaged(_) => return Err(MountFault::BadBlock { number: 0 }),
         Found::Labelled(label) => label,
     };
-    match walk_marks(store, cart, label.volid, label.units, 0) {
+    match walk_marks(store, cart, label.volid, label.units, None) {
         Ok(walk) => Ok(Volume {
             label,
             cart,
@@ -131,9 +132,31 @@ pub fn mount<D: Store>(store: &mut D, cart: Cart) -> Result<Volume, MountFault>
 }
 
 /// Goes over the marks of a labelled cartridge of so many units, each of which it reads once, and
-/// looks for the file with this number, counted from 1; 0 asks for none. A mark that isn't valid,
-/// has other units, or isn't there, is `BadMark`.
+/// looks for the file with this number, counted from 1, if one is asked for. A mark that isn't
+/// valid, has other units, or isn't there, is `BadMark`.
 pub fn walk_marks<D: Store>(
+    store: &mut D,
+    cart: Cart,
+    volid: Volid,
+    units: u32,
+    wanted: Option<u64>,
+) -> Result<MarkWalk, WalkFault>
+    requires cart { IsCart cart.0 }
+    requires units { IsUnits units }
+    ensures cause { FaultCause (cart_file cart.0) (D.view store.old) (D.view store.new)
+        (result ≡ Err walks.Failed) }
+    ensures tells { (D.view store.new).tells ≡ (D.view store.old).tells }
+    ensures quiet { Told (D.view store.old).tells (Quiet (D.view store.old) (D.view store.new)) }
+    ensures range { IfOk result (λ walk. HasRange (2 ^ 52) units walk) }
+    ensures walked { Told (D.view store.old).tells
+        (Walks ((D.view store.old).reads (cart_file cart.0)) volid.0 units (asked_number wanted)
+        result) }
+{
+    walk_for(store, cart, volid, units, wanted.unwrap_or(0))
+}
+
+// The same with the number as it is counted, which is 0 for no file.
+fn walk_for<D: Store>(
     store: &mut D,
     cart: Cart,
     volid: Volid,

@@ -2,7 +2,7 @@ use Rattle.std.proofs.Common.{◌≡◌, ◌+◌, ◌≤◌, ◌^◌, ◌-◌, �
 use Rattle.room_base.specs.Outside.{Told}
 use Rattle.room_disk.specs.Disk.{Quiet}
 use Rattle.volume_store.specs.Reads.{HasWalked, HasRange}
-use Rattle.volume_store.proofs.marks.walk_marks.Given as goal
+use Rattle.volume_store.proofs.marks.walk_for.Given as goal
 
 -- the marks before the walk's end were read, and no read has failed
 abbrev pub invariant-loop-walk : goal.invariant-loop-walk

@@ -6,7 +6,7 @@ use Rattle.volume_store.specs.Writes.{cart_file}
 use Rattle.volume_store.specs.Reads.{FindsMark, WalksOver, StopsAt}
 use Rattle.volume_store.specs.declared.marks.MarkPlace.TheVariants as places
 use Rattle.volume_store.proofs.Walking.{goes_on, ends_closed, ends_bad_or_short, ends_short, range_past}
-use Rattle.volume_store.proofs.marks.walk_marks.Goals as goal
+use Rattle.volume_store.proofs.marks.walk_for.Goals as goal
 
 pub returns-in-Closed-clause-walked : goal.returns-in-Closed-clause-walked
 returns-in-Closed-clause-walked g c = λ told.
