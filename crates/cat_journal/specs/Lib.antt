@@ -1,0 +1,4 @@
+pub mod Layout
+pub mod Contents
+pub mod Meaning
+pub mod Journal

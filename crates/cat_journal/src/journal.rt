@@ -1,0 +1,265 @@
+//! A journal that stands at its next gate, and the calls that write it.
+
+ghost use Rattle.std.specs.Prelude.{◌≡◌, ◌≤◌, ◌<◌, ◌+◌, ◌^◌, [], ◌∷◌, ◌++◌, max, length, None, IfOk};
+ghost use Rattle.std.specs.Prelude.{IsOk, OnOk, OnErr};
+ghost use Rattle.room_disk.specs.Crash.{Overlays, GatedTorn, IsAnew, AnewTorn};
+ghost use Rattle.room_disk.specs.Writing.{WritesFile};
+ghost use Rattle.cat_journal.specs.Journal.{IsOpen, IsPart, file_of, form_of, behind_entry};
+ghost use Rattle.cat_journal.specs.Journal.{AddsEntry, MayAddEntry, IsLast, next_file, next_head};
+ghost use Rattle.cat_journal.specs.Journal.{new_text, in_new_file, turned_over, new_head};
+ghost use Rattle.cat_journal.specs.Journal.{first_head, MakesAnew};
+ghost use Rattle.cat_journal.specs.Layout.{entry_text};
+
+use crate::current::CurrentFile;
+use crate::entry::{ENTRY_GATE, FRAME_SIZE, spell_entry};
+use crate::head::{FILE_GATE, FORM, FRONT_SIZE, front_digest, spell_fields};
+use room_base::{Failed, Memory};
+use room_disk::{Store, write_anew, write_gated, write_synced, write_unsynced};
+use std::alloc::Global;
+use std::marker::Model;
+
+/// A journal that stands at the gate behind its last entry, with memory for entries of some length.
+#[derive(Debug, Drop)]
+pub struct Journal {
+    current: Option<CurrentFile>,
+    last: u64,
+    text: Vec<u8>,
+}
+
+impl Model for Journal {
+    ghost use Rattle.std.specs.Prelude.{◌-◌, vec_len};
+    ghost use Rattle.cat_journal.specs.Journal.{JournalView, IsKnown};
+
+    ghost Value = { JournalView };
+
+    ghost view = { λ journal. record {
+      current = journal.current;
+      last = journal.last;
+      spare = vec_len journal.text - 45;
+    } };
+
+    ghost invariant = { λ journal. IsKnown journal.current };
+}
+
+impl Journal {
+    /// Makes memory for an entry of that length, and keeps what there is.
+    pub fn reserve(&mut self, length: u32) -> Result<(), Memory>
+        ensures ok { OnOk result
+            (self.new ≡ record self.old { spare = max self.old.spare length }) }
+        ensures err { OnErr result (self.new ≡ self.old) }
+    {
+        let size = length as usize + FRAME_SIZE;
+        if self.text.len() < size {
+            self.text.resize(size, 0)?;
+        }
+        Ok(())
+    }
+
+    /// The form of the current file; where none is open, that of the file that is written first.
+    /// Only a file of form 2 takes parts.
+    pub fn form(&self) -> u8
+        ensures { result ≡ form_of self.now.current }
+    {
+        match self.current {
+            Some(current) => current.form,
+            None => FORM,
+        }
+    }
+
+    /// Writes a change behind the last entry, and answers its number. After `Failed` the journal is
+    /// to be opened again.
+    pub fn append<D: Store>(&mut self, store: &mut D, bytes: &[u8]) -> Result<u64, Failed>
+        requires open { IsOpen self.old }
+        requires spare { length bytes.now ≤ self.old.spare }
+        requires short { length bytes.now < 2 ^ 32 }
+        requires last { self.old.last + 1 < 2 ^ 64 }
+        requires change { ¬ IsPart self.old bytes.now }
+        ensures number { IfOk result (λ number. number ≡ self.old.last + 1) }
+        ensures moved { OnOk result (self.new ≡ record self.old {
+          current = behind_entry self.old.current (length bytes.now);
+          last = self.old.last + 1;
+        }) }
+        ensures kept { OnErr result (self.new ≡ self.old) }
+        ensures writes { WritesFile (file_of self.old.current) (AddsEntry self.old bytes.now)
+            (MayAddEntry self.old bytes.now) (D.view store.old) (D.view store.new) result }
+    {
+        self.add_entry(store, bytes)?;
+        self.last += 1;
+        Ok(self.last)
+    }
+
+    /// Writes a part, which has the number of the next change. After `Failed` the journal is to be
+    /// opened again.
+    pub fn append_part<D: Store>(&mut self, store: &mut D, bytes: &[u8]) -> Result<(), Failed>
+        requires open { IsOpen self.old }
+        requires spare { length bytes.now ≤ self.old.spare }
+        requires short { length bytes.now < 2 ^ 32 }
+        requires last { self.old.last + 1 < 2 ^ 64 }
+        requires part { IsPart self.old bytes.now }
+        ensures moved { OnOk result (self.new ≡ record self.old {
+          current = behind_entry self.old.current (length bytes.now);
+        }) }
+        ensures kept { OnErr result (self.new ≡ self.old) }
+        ensures writes { WritesFile (file_of self.old.current) (AddsEntry self.old bytes.now)
+            (MayAddEntry self.old bytes.now) (D.view store.old) (D.view store.new) result }
+    {
+        self.add_entry(store, bytes)
+    }
+
+    /// Writes a snapshot of what the journal has come to into the other file, with the next
+    /// generation, which becomes the current file; where none is open, into file 0 with generation
+    /// 1. No entry stands behind it yet. Behind the last generation nothing is written. After
+    /// `Failed` the journal is to be opened again.
+    pub fn turn_over<D: Store>(&mut self, store: &mut D, snapshot: &[u8]) -> Result<(), Failed>
+        ensures last { IsLast self.old
+            → IsOk result × (self.new ≡ self.old) × (store.new ≡ store.old) }
+        ensures moved { ¬ IsLast self.old → OnOk result
+            (self.new ≡ turned_over self.old (length snapshot.now)) }
+        ensures kept { OnErr result (self.new ≡ self.old) }
+        ensures writes { ¬ IsLast self.old → WritesFile (next_file self.old.current)
+            (IsAnew 0x4A (new_text (next_head self.old) snapshot.now))
+            (AnewTorn 0x4A (new_text (next_head self.old) snapshot.now))
+            (D.view store.old) (D.view store.new) result }
+    {
+        let (file, generation) = match self.current {
+            None => (0, 1),
+            Some(current) if current.generation < u64::MAX => {
+                (1 - current.file, current.generation + 1)
+            }
+            Some(_) => return Ok(()),
+        };
+        let next = write_file(store, file, generation, self.last, snapshot)?;
+        self.current = Some(next);
+        Ok(())
+    }
+
+    /// Makes a journal of a snapshot alone, whatever the two files hold: closes both, and then
+    /// writes generation 1 into file 0. `number` is that of the last change in the snapshot.
+    pub fn fresh<D: Store>(
+        alloc: Global,
+        store: &mut D,
+        number: u64,
+        snapshot: &[u8],
+    ) -> Result<Journal, Failed>
+        ensures journal { IfOk result (λ journal. journal ≡ in_new_file 0 1
+            (record { current = None; last = number; spare = 0 }) (length snapshot.now)) }
+        ensures makes { MakesAnew (new_text (first_head number) snapshot.now)
+            (D.view store.old) (D.view store.new) result }
+    {
+        write_synced(store, 0, 0, &[0])?;
+        write_synced(store, 1, 0, &[0])?;
+        let current = write_file(store, 0, 1, number, snapshot)?;
+        Ok(Journal {
+            current: Some(current),
+            last: number,
+            text: Vec::new(alloc),
+        })
+    }
+
+    // Writes an entry with the next number, and moves the gate behind it.
+    fn add_entry<D: Store>(&mut self, store: &mut D, bytes: &[u8]) -> Result<(), Failed>
+        requires open { IsOpen self.old }
+        requires spare { length bytes.now ≤ self.old.spare }
+        requires short { length bytes.now < 2 ^ 32 }
+        requires last { self.old.last + 1 < 2 ^ 64 }
+        ensures moved { OnOk result (self.new ≡ record self.old {
+          current = behind_entry self.old.current (length bytes.now);
+        }) }
+        ensures kept { OnErr result (self.new ≡ self.old) }
+        ensures writes { WritesFile (file_of self.old.current) (AddsEntry self.old bytes.now)
+            (MayAddEntry self.old bytes.now) (D.view store.old) (D.view store.new) result }
+    {
+        let Some(current) = self.current else {
+            unreachable!()
+        };
+        let number = self.last + 1;
+        let size = bytes.len() + FRAME_SIZE;
+        let gate = if bytes.is_empty() {
+            write_entry(store, current, number, bytes, &mut [0; FRAME_SIZE])?
+        } else {
+            write_entry(store, current, number, bytes, &mut self.text[..size])?
+        };
+        self.current = Some(CurrentFile { gate, ..current });
+        Ok(())
+    }
+}
+
+// Writes an entry at the gate, spelled in `text`, and answers where the next gate stands.
+fn write_entry<D: Store>(
+    store: &mut D,
+    current: CurrentFile,
+    number: u64,
+    bytes: &[u8],
+    text: &mut [u8],
+) -> Result<u64, Failed>
+    requires gate { current.gate + 1 < 2 ^ 64 }
+    requires short { length bytes.now < 2 ^ 32 }
+    requires room { length text.old ≡ 45 + length bytes.now }
+    ensures next { IfOk result (λ next. next ≡ current.gate + (45 + length bytes.now)) }
+    ensures fits { IfOk result (λ next. next + 1 < 2 ^ 64) }
+    ensures writes { WritesFile current.file
+        (Overlays current.gate (0x45 ∷ (entry_text number bytes.now ++ 0 ∷ [])))
+        (GatedTorn current.gate 0x45 (entry_text number bytes.now ++ 0 ∷ []))
+        (D.view store.old) (D.view store.new) result }
+{
+    spell_entry(number, bytes, text);
+    write_behind(store, current.file, current.gate, text)
+}
+
+// Writes what stands behind the gate of an entry, and then the gate. Answers the place of its last
+// byte, which is the next gate.
+fn write_behind<D: Store>(
+    store: &mut D,
+    file: u32,
+    gate: u64,
+    text: &[u8],
+) -> Result<u64, Failed>
+    requires gate { gate + 1 < 2 ^ 64 }
+    ensures next { IfOk result (λ next. next ≡ gate + length text.now) }
+    ensures fits { IfOk result (λ next. next + 1 < 2 ^ 64) }
+    ensures writes { WritesFile file (Overlays gate (0x45 ∷ text.now))
+        (GatedTorn gate 0x45 text.now) (D.view store.old) (D.view store.new) result }
+{
+    match gate.checked_add(text.len() as u64) {
+        Some(next) if next < u64::MAX => {
+            write_gated(store, file, gate, ENTRY_GATE, text)?;
+            Ok(next)
+        }
+        _ => {
+            // No file is that long, so this fails.
+            write_unsynced(store, file, gate + 1, text)?;
+            unreachable!()
+        }
+    }
+}
+
+// Writes a file anew: a head with a snapshot, and no entry.
+fn write_file<D: Store>(
+    store: &mut D,
+    file: u32,
+    generation: u64,
+    number: u64,
+    snapshot: &[u8],
+) -> Result<CurrentFile, Failed>
+    ensures current { IfOk result (λ current. current ≡ record {
+      file = file;
+      form = 2;
+      generation = generation;
+      gate = 64 + length snapshot.now;
+    }) }
+    ensures writes { WritesFile file
+        (IsAnew 0x4A (new_text (new_head generation number) snapshot.now))
+        (AnewTorn 0x4A (new_text (new_head generation number) snapshot.now))
+        (D.view store.old) (D.view store.new) result }
+{
+    let size = snapshot.len() as u64;
+    let fields = spell_fields(generation, number, size);
+    let digest = front_digest(&fields, snapshot);
+    write_anew(store, file, FILE_GATE, &[&fields, &digest, snapshot, &[0]])?;
+    Ok(CurrentFile {
+        file,
+        form: FORM,
+        generation,
+        gate: FRONT_SIZE + size,
+    })
+}

@@ -1,0 +1,12 @@
+//! The catalogue's journal: two files, of which the one of greater generation holds a snapshot and
+//! the entries behind it. It knows nothing of what snapshots and entries hold.
+//! docs/formats.md has the files, docs/definitions.md the words of the contracts.
+#![tactic(auto)]
+
+mod current;
+mod entry;
+mod head;
+mod journal;
+
+pub use current::CurrentFile;
+pub use journal::Journal;
