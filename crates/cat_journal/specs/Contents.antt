@@ -58,7 +58,7 @@ gate_of contents = length (contents_text contents)
 
 -- a head and a snapshot that a file may have
 pub record IsFront (head : Head) (snapshot : List ℕ) : Type 0 where
-  pub head : IsHead head
+  pub fields : IsHead head
   pub size : length snapshot < 2 ^ 64
 
 -- contents that a file may have

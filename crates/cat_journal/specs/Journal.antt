@@ -51,7 +51,7 @@ pub record EndAt (current : CurrentFile) (last : ℕ) (contents : Contents) : Ty
   pub form : current.form ≡ contents.head.form
   pub generation : current.generation ≡ contents.head.generation
   pub gate : current.gate ≡ gate_of contents
-  pub last : last ≡ last_number contents
+  pub number : last ≡ last_number contents
 
 abbrev pub IsAt : Option CurrentFile → ℕ → Contents → Type 0
 IsAt None last contents = ⊥

@@ -43,5 +43,5 @@ entry_text number payload =
 
 -- the number and the length are in their ranges
 pub record IsEntry (number : ℕ) (payload : List ℕ) : Type 0 where
-  pub number : number < 2 ^ 64
-  pub size : length payload < 2 ^ 32
+  pub counted : number < 2 ^ 64
+  pub short : length payload < 2 ^ 32

@@ -1,6 +1,5 @@
 -- What the two files of a journal mean.
-use Rattle.std.specs.Prelude.{◌≡◌, ◌≢◌, ℕ, ◌<◌, List, ◌∷◌, ◌++◌, slice_index, nat_lt}
-use Rattle.std.specs.Prelude.{if◌then◌else◌}
+use Rattle.std.specs.Prelude.{◌≡◌, ◌≢◌, ◌⊎◌, ℕ, ◌<◌, ◌≤◌, List, ◌∷◌, ◌++◌, slice_index}
 use Rattle.room_disk.specs.Disk.{Image}
 use Rattle.cat_journal.specs.Layout.{Head, front_text}
 use Rattle.cat_journal.specs.Contents.{Contents, contents_of, gate_of, IsFront, Holds}
@@ -52,8 +51,8 @@ FrontsMean files (Open head snapshot) Shut meaning =
 FrontsMean files Shut (Open head snapshot) meaning =
     CurrentMeans 1 (files 1) head snapshot meaning
 FrontsMean files (Open head snapshot) (Open other late) meaning =
-    if nat_lt head.generation other.generation then CurrentMeans 1 (files 1) other late meaning
-    else CurrentMeans 0 (files 0) head snapshot meaning
+    ((head.generation < other.generation) × CurrentMeans 1 (files 1) other late meaning)
+    ⊎ ((other.generation ≤ head.generation) × CurrentMeans 0 (files 0) head snapshot meaning)
 
 -- The meaning of the files 0 and 1.
 pub record Means (files : Image) (meaning : Meaning) : Type 0 where

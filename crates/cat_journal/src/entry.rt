@@ -1,7 +1,8 @@
 //! How an entry is spelled.
 
 ghost use Rattle.std.specs.Prelude.{◌≡◌, ◌+◌, ◌<◌, ◌^◌, [], ◌∷◌, ◌++◌, length};
-ghost use Rattle.cat_journal.specs.Layout.{entry_text};
+ghost use Rattle.sha2.specs.Sha256.{sha256};
+ghost use Rattle.cat_journal.specs.Layout.{entry_fields, entry_text};
 
 use byteorder::{BigEndian, ByteOrder};
 use sha2::{Digest, Sha256};
@@ -25,16 +26,28 @@ pub(crate) fn spell_entry(number: u64, bytes: &[u8], into: &mut [u8])
     ensures { into.new ≡ entry_text number bytes.now ++ 0 ∷ [] }
 {
     let (fields, behind) = into.split_at_mut(BYTES_PLACE + bytes.len());
-    BigEndian::write_u64(fields, number);
-    BigEndian::write_u32(&mut fields[8..], bytes.len() as u32);
-    fields[BYTES_PLACE..].copy_from_slice(bytes);
-    let digest = digest_of(fields);
-    behind[..DIGEST_SIZE].copy_from_slice(&digest);
-    behind[DIGEST_SIZE] = 0;
+    spell_fields(number, bytes, fields);
+    spell_end(fields, behind);
 }
 
-fn digest_of(fields: &[u8]) -> [u8; 32]
-    ensures { result ≡ sha256 fields.now }
+// Spells what the digest of an entry is of.
+fn spell_fields(number: u64, bytes: &[u8], into: &mut [u8])
+    requires short { length bytes.now < 2 ^ 32 }
+    requires room { length into.old ≡ 12 + length bytes.now }
+    ensures { into.new ≡ entry_fields number bytes.now }
 {
-    Sha256::digest(fields)
+    BigEndian::write_u64(into, number);
+    BigEndian::write_u32(&mut into[8..], bytes.len() as u32);
+    into[BYTES_PLACE..].copy_from_slice(bytes);
+}
+
+// Spells the digest of an entry's fields, and the next gate, closed.
+fn spell_end(fields: &[u8], into: &mut [u8])
+    requires { length into.old ≡ 33 }
+    ensures { into.new ≡ sha256 fields.now ++ 0 ∷ [] }
+{
+    let digest = Sha256::digest(fields);
+    let (room, gate) = into.split_at_mut(DIGEST_SIZE);
+    room.copy_from_slice(&digest);
+    gate[0] = 0;
 }

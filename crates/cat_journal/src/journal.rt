@@ -1,11 +1,11 @@
 //! A journal that stands at its next gate, and the calls that write it.
 
-ghost use Rattle.std.specs.Prelude.{◌≡◌, ◌≤◌, ◌<◌, ◌+◌, ◌^◌, [], ◌∷◌, ◌++◌, max, length, None, IfOk};
-ghost use Rattle.std.specs.Prelude.{IsOk, OnOk, OnErr};
+ghost use Rattle.std.specs.Prelude.{◌≡◌, ◌≤◌, ◌<◌, ◌+◌, ◌-◌, ◌^◌, [], ◌∷◌, ◌++◌, max, length, None};
+ghost use Rattle.std.specs.Prelude.{IfOk, IsOk, OnOk, OnErr, MatchOption};
 ghost use Rattle.room_disk.specs.Crash.{Overlays, GatedTorn, IsAnew, AnewTorn};
 ghost use Rattle.room_disk.specs.Writing.{WritesFile};
-ghost use Rattle.cat_journal.specs.Journal.{IsOpen, IsPart, file_of, form_of, behind_entry};
-ghost use Rattle.cat_journal.specs.Journal.{AddsEntry, MayAddEntry, IsLast, next_file, next_head};
+ghost use Rattle.cat_journal.specs.Journal.{IsKnown, IsOpen, IsPart, file_of, form_of, behind_entry};
+ghost use Rattle.cat_journal.specs.Journal.{AddsEntry, MayAddEntry, IsLast, next_file, next_generation, next_head};
 ghost use Rattle.cat_journal.specs.Journal.{new_text, in_new_file, turned_over, new_head};
 ghost use Rattle.cat_journal.specs.Journal.{first_head, MakesAnew};
 ghost use Rattle.cat_journal.specs.Layout.{entry_text};
@@ -121,12 +121,8 @@ impl Journal {
             (AnewTorn 0x4A (new_text (next_head self.old) snapshot.now))
             (D.view store.old) (D.view store.new) result }
     {
-        let (file, generation) = match self.current {
-            None => (0, 1),
-            Some(current) if current.generation < u64::MAX => {
-                (1 - current.file, current.generation + 1)
-            }
-            Some(_) => return Ok(()),
+        let Some((file, generation)) = next_place(self.current) else {
+            return Ok(());
         };
         let next = write_file(store, file, generation, self.last, snapshot)?;
         self.current = Some(next);
@@ -172,15 +168,49 @@ impl Journal {
         let Some(current) = self.current else {
             unreachable!()
         };
-        let number = self.last + 1;
-        let size = bytes.len() + FRAME_SIZE;
-        let gate = if bytes.is_empty() {
-            write_entry(store, current, number, bytes, &mut [0; FRAME_SIZE])?
-        } else {
-            write_entry(store, current, number, bytes, &mut self.text[..size])?
-        };
+        let gate = write_in_room(store, current, self.last + 1, bytes, &mut self.text)?;
         self.current = Some(CurrentFile { gate, ..current });
         Ok(())
+    }
+}
+
+// The file that is written next, and its generation, if there is one more.
+fn next_place(current: Option<CurrentFile>) -> Option<(u32, u64)>
+    requires { IsKnown current }
+    ensures { MatchOption result (next_generation current ≡ 2 ^ 64)
+        (λ next. (next.0 ≡ next_file current) × (next.1 ≡ next_generation current)) }
+{
+    match current {
+        None => Some((0, 1)),
+        Some(current) => Some((1 - current.file, current.generation.checked_add(1)?)),
+    }
+}
+
+// Writes an entry at the gate, spelled in room that has been made for it. An entry without bytes of
+// its own needs none.
+fn write_in_room<D: Store>(
+    store: &mut D,
+    current: CurrentFile,
+    number: u64,
+    bytes: &[u8],
+    room: &mut [u8],
+) -> Result<u64, Failed>
+    requires gate { current.gate + 1 < 2 ^ 64 }
+    requires short { length bytes.now < 2 ^ 32 }
+    requires room { length bytes.now ≤ length room.old - 45 }
+    ensures next { IfOk result (λ next. next ≡ current.gate + (45 + length bytes.now)) }
+    ensures fits { IfOk result (λ next. next + 1 < 2 ^ 64) }
+    ensures kept { length room.new ≡ length room.old }
+    ensures writes { WritesFile current.file
+        (Overlays current.gate (0x45 ∷ (entry_text number bytes.now ++ 0 ∷ [])))
+        (GatedTorn current.gate 0x45 (entry_text number bytes.now ++ 0 ∷ []))
+        (D.view store.old) (D.view store.new) result }
+{
+    let size = bytes.len() + FRAME_SIZE;
+    if room.len() < size {
+        write_entry(store, current, number, bytes, &mut [0; FRAME_SIZE])
+    } else {
+        write_entry(store, current, number, bytes, &mut room[..size])
     }
 }
 
