@@ -1,4 +1,5 @@
 pub mod Layout
+pub mod Fields
 pub mod Contents
 pub mod Meaning
 pub mod Journal

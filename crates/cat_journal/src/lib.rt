@@ -7,6 +7,8 @@ mod current;
 mod entry;
 mod head;
 mod journal;
+mod laws;
 
 pub use current::CurrentFile;
 pub use journal::Journal;
+pub use laws::{every_meaning, one_meaning};
