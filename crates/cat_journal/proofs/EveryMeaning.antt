@@ -9,7 +9,7 @@ use Rattle.cat_journal.specs.Layout.{Head, HasForm, IsHead, front_text, entry_te
 use Rattle.cat_journal.specs.Contents.{Contents, contents_of, contents_text, gate_of, number_after, last_of, last_number, entries_text, AreEntries, AreContents, IsFront, IsClosed, IsBroken, Holds, BreaksBehind}
 use Rattle.cat_journal.specs.Meaning.{Front, Shut, Open, Bad, HasFront, Begins, Meaning, Unopened, Damaged, Stands, CurrentMeans, FrontsMean, Means}
 use Rattle.cat_journal.proofs.Spelling.{length-front_text, length-entry_text}
-use Rattle.cat_journal.proofs.Reading.{reads_front, reads_entry}
+use Rattle.cat_journal.proofs.Spelled.{reads_front, reads_entry}
 use Rattle.cat_journal.proofs.OneMeaning.{equal_heads, Ends}
 
 -- ---- deciding

@@ -3,3 +3,4 @@ pub mod Fields
 pub mod Contents
 pub mod Meaning
 pub mod Journal
+pub mod Reads

@@ -8,6 +8,7 @@ mod entry;
 mod head;
 mod journal;
 mod laws;
+mod reading;
 
 pub use current::CurrentFile;
 pub use journal::Journal;
