@@ -1,8 +1,8 @@
 -- A file that is read in pieces: what was handed out, and what is ahead.
-use Rattle.std.proofs.Common.{◌≡◌, ◌≢◌, ℕ, ◌+◌, ◌-◌, ◌<◌, ◌≤◌, List, [], ◌∷◌, ◌++◌, length, take, drop, min, refl, sym, ap, ◌∙◌, append_assoc, arith, true, false}
+use Rattle.std.proofs.Common.{◌≡◌, ◌≢◌, ℕ, ◌+◌, ◌-◌, ◌<◌, ◌≤◌, List, [], ◌∷◌, ◌++◌, length, take, drop, min, refl, sym, ap, ◌∙◌, append_assoc, arith, subst, Bool, true, false, Option}
 use Rattle.std.proofs.lemmas.List.{places, length-take, length-drop, length-append, take-append-drop, drop-drop, drop_all, nil_from_length, take_all}
 use Rattle.std.proofs.lemmas.Grind.{same_number_lists}
-use Rattle.cat_journal.specs.Reads.{PiecesView, ahead, IsOf, ReadsPart, ReadsOn, HandsOut, Fills}
+use Rattle.cat_journal.specs.Reads.{PiecesView, ahead, IsOf, ReadsPart, ReadsOn, HandsOut, Fills, TakesBytes}
 
 abbrev pub of_pieces : ℕ → ℕ → ℕ → List ℕ → PiecesView
 of_pieces file next end unread = record { file = file; next = next; end = end; unread = unread }
@@ -64,3 +64,14 @@ pub handed_short : (into new before mid after : List ℕ) (done size : ℕ) → 
     → take done into ++ mid ≡ before → mid ≡ [] → Fills before after new false
 handed_short into new before mid after done size inside same rest so_far none =
     omega (arith, inside, same, ap length so_far, length-append (take done into) mid, length-take done into, ap length none)
+
+-- the room was filled from the same bytes, as they read there
+pub fills_at : (bytes reads : List ℕ) (before after : PiecesView) (into : List ℕ) (whole : Bool) → reads ≡ bytes → IsOf before bytes
+    → (IsOf before reads → Fills (ahead before reads) (ahead after reads) into whole) → Fills (ahead before bytes) (ahead after bytes) into whole
+fills_at bytes reads before after into whole same is fills =
+    subst (λ (t : List ℕ). Fills (ahead before t) (ahead after t) into whole) same (fills (is ∙ ap length (sym same)))
+
+pub takes_at : (bytes reads : List ℕ) (before after : PiecesView) (size : ℕ) (found : Option (List ℕ)) → reads ≡ bytes → IsOf before bytes
+    → (IsOf before reads → TakesBytes size (ahead before reads) (ahead after reads) found) → TakesBytes size (ahead before bytes) (ahead after bytes) found
+takes_at bytes reads before after size found same is takes =
+    subst (λ (t : List ℕ). TakesBytes size (ahead before t) (ahead after t) found) same (takes (is ∙ ap length (sym same)))

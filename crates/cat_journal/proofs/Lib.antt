@@ -6,3 +6,4 @@ pub mod Spelled
 pub mod OneMeaning
 pub mod EveryMeaning
 pub mod Handing
+pub mod Finding

@@ -4,3 +4,4 @@ pub mod Contents
 pub mod Meaning
 pub mod Journal
 pub mod Reads
+pub mod Entries

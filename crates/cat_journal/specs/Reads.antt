@@ -1,8 +1,14 @@
 -- What is read of a journal's files.
-use Rattle.std.specs.Prelude.{◌≡◌, ◌≢◌, ◌⊎◌, ℕ, ◌+◌, ◌-◌, ◌<◌, ◌≤◌, Bool, true, false, List, [], ◌∷◌}
-use Rattle.std.specs.Prelude.{◌++◌, length, take, drop, min, Result, IfErr}
+use Rattle.std.specs.Prelude.{◌≡◌, ◌≢◌, ◌⊎◌, ℕ, ◌+◌, ◌-◌, ◌<◌, ◌≤◌, ◌^◌, Bool, true, false, List, [], ◌∷◌}
+use Rattle.std.specs.Prelude.{◌++◌, length, take, drop, min, Result, IfErr, Option, Some, None}
+use Rattle.byteorder.specs.Endian.{big_bytes}
 use Rattle.room_base.specs.Faults.{Rose}
 use Rattle.room_disk.specs.Disk.{DiskView}
+use Rattle.cat_journal.specs.Layout.{IsEntry, entry_text}
+use Rattle.cat_journal.specs.Fields.{entry_number_in, entry_size_in}
+use Rattle.cat_journal.specs.Contents.{IsClosed, IsBroken}
+use Rattle.cat_journal.specs.declared.entries.EntryRead.{EntryRead}
+use Rattle.cat_journal.specs.declared.entries.EntryRead.TheVariants as read
 use Rattle.cat_journal.specs.declared.reading.ReadFault.{ReadFault}
 use Rattle.cat_journal.specs.declared.reading.ReadFault.TheVariants as faults
 
@@ -63,3 +69,48 @@ pub record HandsOut (before after into : List ℕ) (count : ℕ) : Type 0 where
 abbrev pub Fills : List ℕ → List ℕ → List ℕ → Bool → Type 0
 Fills before after into true = before ≡ into ++ after
 Fills before after into false = length before < length into
+
+-- so many bytes were handed out, or fewer were ahead
+abbrev pub TakesBytes : ℕ → List ℕ → List ℕ → Option (List ℕ) → Type 0
+TakesBytes size before after None = length before < size
+TakesBytes size before after (Some bytes) = before ≡ bytes ++ after
+
+-- ---- entries
+
+-- the fields before an entry's bytes are those of this number, and the entry ends in the file,
+-- where so many bytes are left from its gate on
+abbrev pub HasFields : List ℕ → ℕ → ℕ → Type 0
+HasFields fields number room =
+    (entry_number_in fields ≡ number) × (45 + entry_size_in fields ≤ room)
+
+-- they are spelled so
+pub record SpellsFields (fields : List ℕ) (number size : ℕ) : Type 0 where
+  pub text : fields ≡ big_bytes 8 number ++ big_bytes 4 size
+  pub counted : number < 2 ^ 64
+  pub short : size < 2 ^ 32
+
+-- an entry with this number stands in front
+abbrev pub IsFirst : ℕ → List ℕ → List ℕ → List ℕ → Type 0
+IsFirst number before after payload =
+    IsEntry number payload × (before ≡ entry_text number payload ++ after)
+
+-- none does
+abbrev pub NoEntry : ℕ → List ℕ → Type 0
+NoEntry number before = (payload more : List ℕ) → IsEntry number payload
+    → before ≢ entry_text number payload ++ more
+
+abbrev pub FindsBehind : ℕ → List ℕ → List ℕ → Option (List ℕ) → Type 0
+FindsBehind number before after None = NoEntry number before
+FindsBehind number before after (Some payload) = IsFirst number before after payload
+
+-- what stands from a gate on
+abbrev pub FindsEntry : ℕ → List ℕ → List ℕ → EntryRead → Type 0
+FindsEntry number before after read.Closed = IsClosed before
+FindsEntry number before after read.Broken = IsBroken number before
+FindsEntry number before after (read.Entry payload) = IsEntry number payload
+    × (before ≡ (0x45 ∷ entry_text number payload) ++ after)
+
+-- an entry that was read ends where the file does, or before
+abbrev pub FitsRoom : ℕ → EntryRead → Type 0
+FitsRoom room (read.Entry payload) = 45 + length payload ≤ room
+FitsRoom room other = Unit {0}

@@ -2,8 +2,11 @@
 
 ghost use Rattle.std.specs.Prelude.{◌≡◌, ◌+◌, ◌<◌, ◌^◌, [], ◌∷◌, ◌++◌, length};
 ghost use Rattle.sha2.specs.Sha256.{sha256};
+ghost use Rattle.cat_journal.specs.Contents.{is_part};
 ghost use Rattle.cat_journal.specs.Layout.{entry_fields, entry_text};
 
+use crate::digest::DIGEST_SIZE;
+use crate::head::FORM;
 use byteorder::{BigEndian, ByteOrder};
 use sha2::{Digest, Sha256};
 
@@ -13,11 +16,21 @@ pub(crate) const ENTRY_GATE: u8 = b'E';
 /// Where an entry's bytes begin, behind its number and its length.
 pub(crate) const BYTES_PLACE: usize = 12;
 
-/// The bytes of a digest.
-pub(crate) const DIGEST_SIZE: usize = 32;
-
 /// The bytes that an entry has besides its own, with its gate or with the next one.
 pub(crate) const FRAME_SIZE: usize = 1 + BYTES_PLACE + DIGEST_SIZE;
+
+/// The byte of an entry's bytes that tells a part, in a file of form 2.
+const KIND_PLACE: usize = 8;
+
+/// What it is there.
+const PART_KIND: u8 = 14;
+
+/// Whether an entry with these bytes is a part, in a file of that form.
+pub(crate) fn is_part(form: u8, bytes: &[u8]) -> bool
+    ensures { result ≡ is_part form bytes.now }
+{
+    form == FORM && bytes.len() > KIND_PLACE && bytes[KIND_PLACE] == PART_KIND
+}
 
 /// Spells an entry behind its gate, and the next gate, closed.
 pub(crate) fn spell_entry(number: u64, bytes: &[u8], into: &mut [u8])

@@ -1,11 +1,9 @@
 //! How the front of a file is spelled.
 
-ghost use Rattle.std.specs.Prelude.{◌≡◌, ◌<◌, ◌++◌, length};
-ghost use Rattle.sha2.specs.Sha256.{sha256};
-ghost use Rattle.cat_journal.specs.Layout.{Head, head_text};
+ghost use Rattle.std.specs.Prelude.{◌≡◌};
+ghost use Rattle.cat_journal.specs.Layout.{head_text};
 
 use byteorder::{BigEndian, ByteOrder};
-use sha2::{Digest, Sha256};
 
 /// The letter that opens a file.
 pub(crate) const FILE_GATE: u8 = b'J';
@@ -30,14 +28,4 @@ pub(crate) fn spell_fields(generation: u64, number: u64, size: u64) -> [u8; FIEL
     BigEndian::write_u64(&mut fields[15..], number);
     BigEndian::write_u64(&mut fields[23..], size);
     fields
-}
-
-/// The digest of a head's fields and the snapshot behind them.
-pub(crate) fn front_digest(fields: &[u8], snapshot: &[u8]) -> [u8; 32]
-    ensures { result ≡ sha256 (fields.now ++ snapshot.now) }
-{
-    let mut hasher = Sha256::new();
-    hasher.update(fields);
-    hasher.update(snapshot);
-    hasher.finalize()
 }

@@ -12,7 +12,8 @@ ghost use Rattle.cat_journal.specs.Layout.{entry_text};
 
 use crate::current::CurrentFile;
 use crate::entry::{ENTRY_GATE, FRAME_SIZE, spell_entry};
-use crate::head::{FILE_GATE, FORM, FRONT_SIZE, front_digest, spell_fields};
+use crate::digest::digest_of;
+use crate::head::{FILE_GATE, FORM, FRONT_SIZE, spell_fields};
 use room_base::{Failed, Memory};
 use room_disk::{Store, write_anew, write_gated, write_synced, write_unsynced};
 use std::alloc::Global;
@@ -284,7 +285,7 @@ fn write_file<D: Store>(
 {
     let size = snapshot.len() as u64;
     let fields = spell_fields(generation, number, size);
-    let digest = front_digest(&fields, snapshot);
+    let digest = digest_of(&fields, snapshot);
     write_anew(store, file, FILE_GATE, &[&fields, &digest, snapshot, &[0]])?;
     Ok(CurrentFile {
         file,

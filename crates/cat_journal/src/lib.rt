@@ -4,12 +4,16 @@
 #![tactic(auto)]
 
 mod current;
+mod digest;
+mod entries;
 mod entry;
+mod entry_list;
 mod head;
 mod journal;
 mod laws;
 mod reading;
 
 pub use current::CurrentFile;
+pub use entry_list::Entry;
 pub use journal::Journal;
 pub use laws::{every_meaning, one_meaning};
