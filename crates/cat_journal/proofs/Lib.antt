@@ -7,3 +7,4 @@ pub mod OneMeaning
 pub mod EveryMeaning
 pub mod Handing
 pub mod Finding
+pub mod Listing

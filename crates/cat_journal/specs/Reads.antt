@@ -111,6 +111,6 @@ FindsEntry number before after (read.Entry payload) = IsEntry number payload
     × (before ≡ (0x45 ∷ entry_text number payload) ++ after)
 
 -- an entry that was read ends where the file does, or before
-abbrev pub FitsRoom : ℕ → EntryRead → Type 0
-FitsRoom room (read.Entry payload) = 45 + length payload ≤ room
-FitsRoom room other = Unit {0}
+abbrev pub FitsRoom : ℕ → ℕ → EntryRead → Type 0
+FitsRoom number room (read.Entry payload) = (number < 2 ^ 64) × (45 + length payload ≤ room)
+FitsRoom number room other = Unit {0}

@@ -1,6 +1,6 @@
 //! Reads entries one behind the other.
 
-ghost use Rattle.std.specs.Prelude.{◌≡◌, ◌≤◌, ◌+◌, length, IfOk, MatchOption, IfSome, option_map};
+ghost use Rattle.std.specs.Prelude.{◌≡◌, ◌<◌, ◌≤◌, ◌+◌, ◌^◌, length, IfOk, IfSome, MatchOption};
 ghost use Rattle.room_base.specs.Outside.{Told};
 ghost use Rattle.room_disk.specs.Disk.{Quiet};
 ghost use Rattle.cat_journal.specs.Fields.{entry_size_in};
@@ -35,7 +35,7 @@ pub(crate) fn read_entry<D: Store>(
 ) -> Result<EntryRead, ReadFault>
     ensures file { pieces.new.file ≡ pieces.old.file }
     ensures end { pieces.new.end ≡ pieces.old.end }
-    ensures fits { IfOk result (FitsRoom room) }
+    ensures fits { IfOk result (FitsRoom (last + 1) room) }
     ensures cause { ReadCause pieces.old.file (D.view store.old) (D.view store.new) result }
     ensures tells { (D.view store.new).tells ≡ (D.view store.old).tells }
     ensures quiet { Told (D.view store.old).tells (Quiet (D.view store.old) (D.view store.new)) }
@@ -69,7 +69,8 @@ fn read_behind<D: Store>(
 ) -> Result<Option<Items<u8>>, ReadFault>
     ensures file { pieces.new.file ≡ pieces.old.file }
     ensures end { pieces.new.end ≡ pieces.old.end }
-    ensures fits { IfOk result (λ found. IfSome found (λ bytes. 45 + length bytes ≤ room)) }
+    ensures fits { IfOk result (λ found. IfSome found (λ bytes.
+        (last + 1 < 2 ^ 64) × (45 + length bytes ≤ room))) }
     ensures cause { ReadCause pieces.old.file (D.view store.old) (D.view store.new) result }
     ensures tells { (D.view store.new).tells ≡ (D.view store.old).tells }
     ensures quiet { Told (D.view store.old).tells (Quiet (D.view store.old) (D.view store.new)) }

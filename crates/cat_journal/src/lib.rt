@@ -8,6 +8,7 @@ mod digest;
 mod entries;
 mod entry;
 mod entry_list;
+mod front;
 mod head;
 mod journal;
 mod laws;
