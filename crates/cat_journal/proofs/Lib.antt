@@ -8,3 +8,4 @@ pub mod EveryMeaning
 pub mod Handing
 pub mod Finding
 pub mod Listing
+pub mod Fronts

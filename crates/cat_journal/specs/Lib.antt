@@ -5,3 +5,4 @@ pub mod Meaning
 pub mod Journal
 pub mod Reads
 pub mod Entries
+pub mod Heads

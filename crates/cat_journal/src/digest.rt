@@ -21,5 +21,11 @@ pub(crate) fn digest_of(head: &[u8], behind: &[u8]) -> [u8; DIGEST_SIZE]
 pub(crate) fn has_digest(head: &[u8], behind: &[u8], digest: &[u8; DIGEST_SIZE]) -> bool
     ensures { IsTrue result ↔ (sha256 (head.now ++ behind.now) ≡ digest.now) }
 {
-    digest_of(head, behind) == *digest
+    same_digest(&digest_of(head, behind), digest)
+}
+
+pub(crate) fn same_digest(one: &[u8; DIGEST_SIZE], other: &[u8; DIGEST_SIZE]) -> bool
+    ensures { IsTrue result ↔ (one.now ≡ other.now) }
+{
+    *one == *other
 }

@@ -83,7 +83,7 @@ fn read_part<D: Store>(
 }
 
 /// How many bytes are read at once.
-const PIECE_SIZE: usize = 1 << 20;
+pub(crate) const PIECE_SIZE: usize = 1 << 20;
 
 /// A file from a place on, which is read in large pieces.
 #[derive(Debug, Drop)]
