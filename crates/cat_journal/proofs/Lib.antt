@@ -9,3 +9,4 @@ pub mod Handing
 pub mod Finding
 pub mod Listing
 pub mod Fronts
+pub mod HeadsRead

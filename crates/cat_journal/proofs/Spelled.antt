@@ -21,6 +21,7 @@ pub record ReadsFront (bytes : List ℕ) (head : Head) (snapshot rest : List ℕ
   pub gate : get_or bytes 0 0 ≡ 0x4A
   pub form : form_in bytes ≡ head.form
   pub zeros : take 6 (drop 2 bytes) ≡ replicate 6 0
+  pub fields : take 31 (drop 1 bytes) ≡ head_text head (length snapshot)
   pub generation : generation_in bytes ≡ head.generation
   pub number : number_in bytes ≡ head.number
   pub size : size_in bytes ≡ length snapshot
@@ -44,6 +45,7 @@ reads_parts head snapshot rest digest is sized of =
       gate = refl;
       form = refl;
       zeros = refl;
+      fields = refl;
       generation = reads_8 head.generation (big_bytes 8 head.number ++ big_bytes 8 size ++ behind) (generation_fits head is.fields);
       number = reads_8 head.number (big_bytes 8 size ++ behind) is.fields.number;
       size = reads_8 size behind is.size;

@@ -4,7 +4,7 @@ use Rattle.std.specs.Prelude.{length, take, drop, replicate, slice_index, Option
 use Rattle.sha2.specs.Sha256.{sha256}
 use Rattle.sha2.specs.Hashers.{Holds256}
 use Rattle.sha2.specs.declared.Sha256.{Sha256}
-use Rattle.cat_journal.specs.Layout.{HasForm}
+use Rattle.cat_journal.specs.Layout.{Head, HasForm, head_text}
 use Rattle.cat_journal.specs.Fields.{form_in, generation_in, number_in, size_in}
 use Rattle.cat_journal.specs.declared.front.FileHead.{FileHead}
 use Rattle.cat_journal.specs.declared.front.FrontRead.{FrontRead}
@@ -36,11 +36,19 @@ FindsHead text end read.Bad = (slice_index text 0 ≡ 0x4A) × ¬ IsHeadText tex
 FindsHead text end (read.Open head) =
     (slice_index text 0 ≡ 0x4A) × IsHeadText text end × (head ≡ file_head text end)
 
--- the fields of a head that is read are in their ranges
+-- what a head that is read says
+abbrev pub head_of : FileHead → Head
+head_of head =
+    record { form = head.form; generation = head.generation; number = head.number }
+
+-- the fields of a head that is read are in their ranges, and spelled so
 pub record IsFileHead (head : FileHead) : Type 0 where
   pub form : HasForm head.form head.generation
   pub first : 1 ≤ head.generation
+  pub number : head.number < 2 ^ 64
+  pub short : head.size < 2 ^ 64
   pub size : 64 + head.size ≤ head.end
+  pub text : head.fields ≡ head_text (head_of head) head.size
 
 abbrev pub HasFileHead : FrontRead → Type 0
 HasFileHead (read.Open head) = IsFileHead head

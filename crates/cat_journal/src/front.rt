@@ -6,7 +6,7 @@ ghost use Rattle.room_base.specs.Outside.{Told};
 ghost use Rattle.room_disk.specs.Disk.{Quiet};
 ghost use Rattle.cat_journal.specs.Layout.{HasForm};
 ghost use Rattle.cat_journal.specs.Reads.{ReadCause};
-ghost use Rattle.cat_journal.specs.Heads.{IsHeadText, file_head, FindsHead, HasFileHead};
+ghost use Rattle.cat_journal.specs.Heads.{IsHeadText, file_head, FindsHead, IsFileHead, HasFileHead};
 ghost use Rattle.cat_journal.specs.Heads.{FindsSnapshot, ChecksSnapshot, DigestsPart};
 
 use crate::digest::{DIGEST_SIZE, has_digest, same_digest};
@@ -95,6 +95,7 @@ fn open_head(text: &[u8], end: u64) -> Option<FileHead>
     ensures found { IfSome result
         (λ head. IsHeadText text.now end × (head ≡ file_head text.now end)) }
     ensures none { IfNone result (¬ IsHeadText text.now end) }
+    ensures allowed { IfSome result IsFileHead }
 {
     if text.len() < FRONT_SIZE as usize || !has_zeros(text) {
         return None;
