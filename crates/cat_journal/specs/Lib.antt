@@ -6,3 +6,4 @@ pub mod Journal
 pub mod Reads
 pub mod Entries
 pub mod Heads
+pub mod Opening

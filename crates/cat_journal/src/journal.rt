@@ -43,6 +43,18 @@ impl Model for Journal {
 }
 
 impl Journal {
+    // A journal that stands so, with memory for no entry.
+    pub(crate) fn at(alloc: Global, current: Option<CurrentFile>, last: u64) -> Journal
+        requires { IsKnown current }
+        ensures { result ≡ record { current = current; last = last; spare = 0 } }
+    {
+        Journal {
+            current,
+            last,
+            text: Vec::new(alloc),
+        }
+    }
+
     /// Makes memory for an entry of that length, and keeps what there is.
     pub fn reserve(&mut self, length: u32) -> Result<(), Memory>
         ensures ok { OnOk result
@@ -146,11 +158,7 @@ impl Journal {
         write_synced(store, 0, 0, &[0])?;
         write_synced(store, 1, 0, &[0])?;
         let current = write_file(store, 0, 1, number, snapshot)?;
-        Ok(Journal {
-            current: Some(current),
-            last: number,
-            text: Vec::new(alloc),
-        })
+        Ok(Journal::at(alloc, Some(current), number))
     }
 
     // Writes an entry with the next number, and moves the gate behind it.

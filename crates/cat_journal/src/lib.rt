@@ -12,9 +12,11 @@ mod front;
 mod head;
 mod journal;
 mod laws;
+mod opening;
 mod reading;
 
 pub use current::CurrentFile;
 pub use entry_list::Entry;
 pub use journal::Journal;
 pub use laws::{every_meaning, one_meaning};
+pub use opening::{OpenFault, Opened};
