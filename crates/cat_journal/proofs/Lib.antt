@@ -10,3 +10,5 @@ pub mod Finding
 pub mod Listing
 pub mod Fronts
 pub mod HeadsRead
+pub mod Opens
+pub mod Standing

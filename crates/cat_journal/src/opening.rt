@@ -1,6 +1,7 @@
 //! Opens a journal: finds the current file, its snapshot and its entries.
 
-ghost use Rattle.std.specs.Prelude.{◌≡◌, ◌≤◌, ◌+◌, ◌^◌, ◌<◌, length, take, Some, None, OnOk, IfOk};
+ghost use Rattle.std.specs.Prelude.{◌≡◌, ◌≤◌, ◌+◌, ◌^◌, ◌<◌, length, take, Some, None, OnOk};
+ghost use Rattle.std.specs.Prelude.{IfOk, IfErr};
 ghost use Rattle.room_base.specs.Outside.{Told};
 ghost use Rattle.room_disk.specs.Disk.{Quiet, Settled};
 ghost use Rattle.cat_journal.specs.Meaning.{HasFront};
@@ -80,6 +81,7 @@ impl Journal {
 fn sync_file<D: Store>(store: &mut D, file: u32) -> Result<(), OpenFault>
     requires { file ≤ 1 }
     ensures cause { OpenCause (D.view store.old) (D.view store.new) result }
+    ensures fault { IfErr result (λ fault. fault ≡ faults.Failed file) }
     ensures tells { (D.view store.new).tells ≡ (D.view store.old).tells }
     ensures quiet { Told (D.view store.old).tells (Quiet (D.view store.old) (D.view store.new)) }
     ensures settled { Told (D.view store.old).tells

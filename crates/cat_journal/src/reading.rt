@@ -1,8 +1,9 @@
 //! How a journal's files are read: whole parts, or in large pieces.
 
-ghost use Rattle.std.specs.Prelude.{◌≡◌, ◌≤◌, ◌<◌, ◌-◌, [], min, length, take, drop, IfOk, IsOk, OnOk};
+ghost use Rattle.std.specs.Prelude.{◌≡◌, ◌≤◌, ◌<◌, ◌-◌, [], min, length, take, drop, IfOk, IfErr, OnOk};
 ghost use Rattle.room_base.specs.Outside.{Told};
 ghost use Rattle.room_disk.specs.Disk.{Quiet};
+ghost use Rattle.cat_journal.specs.declared.reading.ReadFault.TheVariants.{Memory};
 ghost use Rattle.cat_journal.specs.Reads.{ReadCause, ReadsWhole, ReadsPart, ahead, IsOf, ReadsOn};
 ghost use Rattle.cat_journal.specs.Reads.{HandsOut, Fills};
 
@@ -117,8 +118,9 @@ impl Pieces {
     /// The file from `at` on, which has `end` bytes.
     pub(crate) fn new(alloc: Global, file: u32, at: u64, end: u64) -> Result<Pieces, ReadFault>
         requires { at ≤ end }
-        ensures { IfOk result (λ pieces. pieces
+        ensures begins { IfOk result (λ pieces. pieces
             ≡ record { file = file; next = at; end = end; unread = [] }) }
+        ensures memory { IfErr result (λ fault. fault ≡ Memory) }
     {
         let mut piece = Vec::new(alloc);
         piece.resize(PIECE_SIZE, 0)?;
