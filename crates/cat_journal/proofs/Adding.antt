@@ -1,8 +1,8 @@
 -- One entry more in a file of a journal.
-use Rattle.std.proofs.Common.{◌≡◌, ◌≢◌, ◌⊎◌, ℕ, suc, ◌+◌, ◌<◌, ◌≤◌, ◌^◌, List, [], ◌∷◌, ◌++◌, length, take, drop, replicate, ◌-◌, get_or, max, refl, sym, ap, subst, ◌∙◌, append_assoc, arith, inl, inr}
-use Rattle.std.proofs.lemmas.Bool.{cases_eq, cases_lt}
+use Rattle.std.proofs.Common.{◌≡◌, ◌≢◌, ◌⊎◌, ℕ, ◌+◌, ◌<◌, List, [], ◌∷◌, ◌++◌, length, take, drop, replicate, ◌-◌, get_or, max, refl, sym, ap, subst, ◌∙◌, append_assoc, arith, inl, inr}
+use Rattle.std.proofs.lemmas.Bool.{cases_eq}
 use Rattle.std.proofs.lemmas.List.{length-append, append-nil, take_at, drop_at, get_or-append_right, get_or_append_left, take-append-drop, drop-drop, get_or-drop, length-drop, ext_get_or, get_or-take, length-take}
-use Rattle.room_disk.specs.Crash.{overlaid, Overlays, Torn, GatedTorn}
+use Rattle.room_disk.specs.Crash.{overlaid, Overlays, GatedTorn}
 use Rattle.room_disk.proofs.Overlay.{length-overlaid, overlaid-before, letter_whole}
 use Rattle.std.specs.Prelude.{Option, Some, Result}
 use Rattle.room_disk.specs.Disk.{DiskView}

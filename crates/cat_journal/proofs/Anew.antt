@@ -1,10 +1,10 @@
 -- A journal that is made anew: both files are closed, and then file 0 is written.
-use Rattle.std.proofs.Common.{◌≡◌, ◌≢◌, ◌⊎◌, ℕ, ◌+◌, ◌≤◌, List, [], ◌∷◌, length, drop, get_or, refl, sym, ap, subst, ◌∙◌, arith, inl, inr}
+use Rattle.std.proofs.Common.{◌≡◌, ◌≢◌, ◌⊎◌, ℕ, ◌≤◌, List, [], ◌∷◌, get_or, refl, sym, ap, subst, ◌∙◌, arith, inl, inr}
 use Rattle.std.specs.Prelude.{IsTrue, Result, Ok, Err, OnOk, OnErr}
 use Rattle.room_base.specs.Faults.{Rose}
 use Rattle.room_base.specs.Outside.{Told}
-use Rattle.room_disk.specs.Disk.{DiskView, Image, Leaves, OnFile, Others, OthersThan, OthersLeft, Settled}
-use Rattle.room_disk.specs.Crash.{overlaid, Overlays, Torn, IsAnew, AnewTorn}
+use Rattle.room_disk.specs.Disk.{DiskView, Image, Leaves, OnFile, Others, OthersThan, Settled}
+use Rattle.room_disk.specs.Crash.{Overlays, Torn, IsAnew, AnewTorn}
 use Rattle.room_disk.specs.Writing.{ComesOf, WritesFile}
 use Rattle.room_disk.proofs.Anew.{closing}
 use Rattle.room_disk.proofs.Overlay.{overlaid_first}
@@ -175,9 +175,13 @@ makes_all text before mid late now one two three =
       cause = tt;
       tells = making.tells;
       others = making.others;
-      settled = λ told. (three.settled (told_late told),
-          settled_others 0 1 late now not_zero (three.others (told_late told)) (are_closed before mid late told one two).also);
-      whole = λ told. (three.whole (told_late told),
-          shut_same (now.reads 1) (late.reads 1) ((three.others (told_late told)).reads 1 not_zero) (are_closed before mid late told one two).second);
+      settled = λ told. (
+        three.settled (told_late told),
+        settled_others 0 1 late now not_zero (three.others (told_late told)) (are_closed before mid late told one two).also,
+      );
+      whole = λ told. (
+        three.whole (told_late told),
+        shut_same (now.reads 1) (late.reads 1) ((three.others (told_late told)).reads 1 not_zero) (are_closed before mid late told one two).second,
+      );
       moments = making.moments;
     }

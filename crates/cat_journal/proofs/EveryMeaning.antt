@@ -1,14 +1,13 @@
 -- Any two files have a meaning: whether a front and an entry stand in bytes is decided by what is read there.
-use Rattle.std.proofs.Common.{◌≡◌, ◌≢◌, ◌⊎◌, ℕ, zero, suc, ◌+◌, ◌<◌, ◌≤◌, ◌^◌, List, [], ◌∷◌, ◌++◌, length, take, drop, get_or, refl, sym, ap, subst, ◌∙◌, append_assoc, arith, inl, inr}
-use Rattle.std.proofs.lemmas.List.{append-nil, length-append, take-append-drop}
+use Rattle.std.proofs.Common.{◌≡◌, ◌⊎◌, ℕ, zero, suc, ◌+◌, ◌<◌, ◌≤◌, ◌^◌, List, [], ◌∷◌, ◌++◌, length, take, drop, get_or, refl, sym, ap, subst, ◌∙◌, append_assoc, arith, inl, inr}
+use Rattle.std.proofs.lemmas.List.{length-append}
 use Rattle.std.proofs.lemmas.Bool.{cases_lt}
 use Rattle.std.proofs.Math.Decide.{ℕ_discrete, dec_le}
 use Rattle.room_disk.specs.Disk.{Image}
 use Rattle.cat_journal.specs.Fields.{form_in, generation_in, number_in, size_in, head_in, entry_size_in}
-use Rattle.cat_journal.specs.Layout.{Head, HasForm, IsHead, front_text, entry_text, IsEntry}
-use Rattle.cat_journal.specs.Contents.{Contents, contents_of, contents_text, gate_of, number_after, last_of, last_number, entries_text, AreEntries, AreContents, IsFront, IsClosed, IsBroken, Holds, BreaksBehind}
+use Rattle.cat_journal.specs.Layout.{Head, HasForm, front_text, entry_text, IsEntry}
+use Rattle.cat_journal.specs.Contents.{contents_of, contents_text, gate_of, number_after, last_of, entries_text, AreEntries, AreContents, IsBroken}
 use Rattle.cat_journal.specs.Meaning.{Front, Shut, Open, Bad, HasFront, Begins, Meaning, Unopened, Damaged, Stands, CurrentMeans, FrontsMean, Means}
-use Rattle.cat_journal.proofs.Spelling.{length-front_text, length-entry_text}
 use Rattle.cat_journal.proofs.Spelled.{reads_front, reads_entry}
 use Rattle.cat_journal.proofs.OneMeaning.{equal_heads, Ends}
 
@@ -67,21 +66,28 @@ there_of bytes head snapshot has =
     let snapshots : snapshot ≡ snapshot_in bytes = sym (ap (λ (n : ℕ). take n (drop 64 bytes)) reads.size ∙ reads.snapshot_read) in
     let P : Head → List ℕ → Type 0 = λ h s. (HasForm h.form h.generation × ((1 ≤ h.generation) × (h.number < 2 ^ 64)))
     × ((length s < 2 ^ 64) × (bytes ≡ (0x4A ∷ front_text h s) ++ drop (64 + length s) bytes)) in
-    subst (P (head_in bytes)) snapshots (subst (λ h. P h snapshot) heads
-    ((has.allowed.fields.form, (has.allowed.fields.first, has.allowed.fields.number)), (has.allowed.size,
-    has.text ∙ ap (λ (t : List ℕ). (0x4A ∷ front_text head snapshot) ++ t) (sym reads.behind))))
+    subst (P (head_in bytes)) snapshots (subst (λ h. P h snapshot) heads (
+      (has.allowed.fields.form, (has.allowed.fields.first, has.allowed.fields.number)),
+      (
+        has.allowed.size,
+        has.text ∙ ap (λ (t : List ℕ). (0x4A ∷ front_text head snapshot) ++ t) (sym reads.behind),
+      ),
+    ))
 
 front_of : (bytes : List ℕ) → Dec (get_or bytes 0 0 ≡ 0x4A) → Dec (IsThere bytes) → (front : Front) × Begins bytes front
 front_of bytes (no shut) there = (Shut, shut)
 front_of bytes (yes opens) (no none) = (Bad, (opens, λ head snapshot has. none (there_of bytes head snapshot has)))
-front_of bytes (yes opens) (yes there) = (Open (head_in bytes) (snapshot_in bytes), record {
-  allowed = record {
-    fields = record { form = there.0.0; first = there.0.1.0; number = there.0.1.1 };
-    size = there.1.0;
-  };
-  rest = drop (64 + length (snapshot_in bytes)) bytes;
-  text = there.1.1;
-})
+front_of bytes (yes opens) (yes there) = (
+  Open (head_in bytes) (snapshot_in bytes),
+  record {
+    allowed = record {
+      fields = record { form = there.0.0; first = there.0.1.0; number = there.0.1.1 };
+      size = there.1.0;
+    };
+    rest = drop (64 + length (snapshot_in bytes)) bytes;
+    text = there.1.1;
+  },
+)
 
 pub every_front : (bytes : List ℕ) → (front : Front) × Begins bytes front
 every_front bytes = front_of bytes (ℕ_discrete (get_or bytes 0 0) 0x4A) (is_there bytes)
@@ -177,8 +183,17 @@ current_of file bytes head snapshot has entries =
     let allowed : AreContents contents = record { front = has.allowed; entries = entries.are } in
     elim entries.ends [
       | inl closed ↦ (Stands file contents, (refl, refl, refl, record { allowed = allowed; rest = entries.rest; text = text; closed = closed }))
-      | inr broken ↦ (Damaged file (gate_of contents), (refl, (entries.payloads,
-          record { allowed = allowed; rest = entries.rest; text = text; broken = broken }, refl)))
+      | inr broken ↦ (
+        Damaged file (gate_of contents),
+        (
+          refl,
+          (
+            entries.payloads,
+            record { allowed = allowed; rest = entries.rest; text = text; broken = broken },
+            refl,
+          ),
+        ),
+      )
     ]
 
 every_current : (file : ℕ) (bytes : List ℕ) (head : Head) (snapshot : List ℕ) → HasFront bytes head snapshot

@@ -1,6 +1,6 @@
 -- An entry that is read behind its gate, or that isn't there.
-use Rattle.std.proofs.Common.{◌≡◌, ◌≢◌, ℕ, ◌+◌, ◌<◌, ◌≤◌, ◌^◌, List, [], ◌∷◌, ◌++◌, length, take, drop, get_or, refl, sym, ap, subst, ◌∙◌, append_assoc, arith, inl, inr}
-use Rattle.std.proofs.lemmas.List.{length-append, take_at, drop_at, append-nil, length-take, length-take-le, length-drop, get_or-take, get_or-drop, get_or_past, take-append-drop, take_all}
+use Rattle.std.proofs.Common.{◌≡◌, ◌≢◌, ℕ, ◌+◌, ◌<◌, ◌≤◌, ◌^◌, List, [], ◌++◌, length, take, drop, get_or, refl, sym, ap, ◌∙◌, append_assoc, arith, inl, inr}
+use Rattle.std.proofs.lemmas.List.{length-append, take_at, drop_at, length-take, length-take-le, length-drop, get_or-take, get_or-drop, get_or_past, take_all}
 use Rattle.std.proofs.lemmas.Bool.{cases_lt}
 use Rattle.std.proofs.lemmas.Nat.{be_bytes_4, be_bytes_8}
 use Rattle.std.proofs.Math.Seq.{take-add}
@@ -152,8 +152,7 @@ pub is_first : (number size : ℕ) (rest fields mid bytes tail digest after : Li
 unfolding entry_text
 is_first number size rest fields mid bytes tail digest after spells split long goes ends right =
     let head : fields ≡ entry_head number bytes = spells.text ∙ ap (λ (n : ℕ). big_bytes 8 number ++ big_bytes 4 n) (sym long) in
-    let whole : fields ++ bytes ≡ entry_fields number bytes = ap (λ (t : List ℕ). t ++ bytes) head in
-    (
+    let whole : fields ++ bytes ≡ entry_fields number bytes = ap (λ (t : List ℕ). t ++ bytes) head in (
       record { counted = spells.counted; short = omega (arith, long, spells.short) },
       split ∙ ap (λ (t : List ℕ). fields ++ t) (goes ∙ ap (λ (t : List ℕ). bytes ++ t) ends)
           ∙ sym (append_assoc fields bytes (digest ++ after)) ∙ sym (append_assoc (fields ++ bytes) digest after)

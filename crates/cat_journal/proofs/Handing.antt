@@ -1,6 +1,6 @@
 -- A file that is read in pieces: what was handed out, and what is ahead.
-use Rattle.std.proofs.Common.{◌≡◌, ◌≢◌, ℕ, ◌+◌, ◌-◌, ◌<◌, ◌≤◌, List, [], ◌∷◌, ◌++◌, length, take, drop, min, refl, sym, ap, ◌∙◌, append_assoc, arith, subst, Bool, true, false, Option}
-use Rattle.std.proofs.lemmas.List.{places, length-take, length-drop, length-append, take-append-drop, drop-drop, drop_all, nil_from_length, take_all}
+use Rattle.std.proofs.Common.{◌≡◌, ℕ, ◌+◌, ◌-◌, ◌<◌, ◌≤◌, List, [], ◌++◌, length, take, drop, min, sym, ap, ◌∙◌, append_assoc, arith, subst, Bool, true, false, Option}
+use Rattle.std.proofs.lemmas.List.{places, length-take, length-drop, length-append, take-append-drop, drop-drop, nil_from_length, take_all}
 use Rattle.std.proofs.lemmas.Grind.{same_number_lists}
 use Rattle.cat_journal.specs.Reads.{PiecesView, ahead, IsOf, ReadsPart, ReadsOn, HandsOut, Fills, TakesBytes}
 

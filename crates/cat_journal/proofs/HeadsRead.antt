@@ -1,18 +1,17 @@
 -- What the head and the snapshot that were read say of a file's front.
-use Rattle.std.proofs.Common.{◌≡◌, ◌≢◌, ℕ, ◌+◌, ◌-◌, ◌<◌, ◌≤◌, ◌^◌, List, [], ◌∷◌, ◌++◌, length, take, drop, replicate, get_or, refl, sym, ap, subst, ◌∙◌, append_assoc, arith}
-use Rattle.std.proofs.lemmas.List.{length-append, length-take, length-drop, take-append-drop, take_at, drop_at, drop-drop, drop-take, take-take, get_or-take, take_all}
+use Rattle.std.proofs.Common.{◌≡◌, ℕ, ◌+◌, ◌-◌, ◌≤◌, List, [], ◌∷◌, ◌++◌, length, take, drop, replicate, get_or, refl, sym, ap, subst, ◌∙◌, append_assoc, arith}
+use Rattle.std.proofs.lemmas.List.{length-take, length-drop, take-append-drop, drop-drop, drop-take, take-take, get_or-take, take_all}
 use Rattle.std.proofs.Math.Seq.{take-add}
 use Rattle.sha2.specs.Sha256.{sha256}
 use Rattle.byteorder.specs.Endian.{big_bytes, big_number}
 use Rattle.byteorder.specs.Numbers.{big_from-take, big_from-lt}
-use Rattle.cat_journal.specs.Layout.{Head, HasForm, IsHead, head_text, front_text}
-use Rattle.cat_journal.specs.Contents.{IsFront}
-use Rattle.cat_journal.specs.Meaning.{HasFront, Begins, Shut, Open, Bad}
+use Rattle.cat_journal.specs.Layout.{Head, HasForm, head_text, front_text}
+use Rattle.cat_journal.specs.Meaning.{HasFront, Begins, Shut, Bad}
 use Rattle.cat_journal.specs.Fields.{form_in, generation_in, number_in, size_in}
 use Rattle.cat_journal.specs.Heads.{IsHeadText, file_head, head_of, FindsHead, IsFileHead, HasSnapshot}
 use Rattle.cat_journal.specs.declared.front.FileHead.{FileHead}
 use Rattle.cat_journal.specs.declared.front.FrontRead.TheVariants as read
-use Rattle.cat_journal.proofs.Spelled.{ReadsFront, reads_front}
+use Rattle.cat_journal.proofs.Spelled.{reads_front}
 use Rattle.cat_journal.proofs.Finding.{IsBytes, IsBytes-drop, bytes_of_8}
 
 -- ---- the first bytes
@@ -67,8 +66,7 @@ snapshot_of bytes head other snapshot found has =
     let size : head.size ≡ length snapshot = ap (λ (h : FileHead). h.size) made ∙ number_at 24 bytes (omega arith) ∙ reads.size in
     let fields : head.fields ≡ head_text other (length snapshot) = ap (λ (h : FileHead). h.fields) made ∙ part_at 1 31 bytes (omega arith) ∙ reads.fields in
     let digest : head.digest ≡ sha256 (head_text other (length snapshot) ++ snapshot) = ap (λ (h : FileHead). h.digest) made ∙ part_at 32 32 bytes (omega arith) ∙ reads.digest in
-    let behind : take head.size (drop 64 bytes) ≡ snapshot = ap (λ (n : ℕ). take n (drop 64 bytes)) size ∙ reads.snapshot_read in
-    (
+    let behind : take head.size (drop 64 bytes) ≡ snapshot = ap (λ (n : ℕ). take n (drop 64 bytes)) size ∙ reads.snapshot_read in (
       omega (arith, size, reads.long),
       refl,
       ap (λ (t : List ℕ). sha256 (head.fields ++ t)) behind ∙ ap (λ (t : List ℕ). sha256 (t ++ snapshot)) fields ∙ sym digest,
@@ -76,8 +74,10 @@ snapshot_of bytes head other snapshot found has =
 
 pub begins_broken : (bytes : List ℕ) (head : FileHead) → FindsHead (take 64 bytes) (length bytes) (read.Open head)
     → ((snapshot : List ℕ) → ¬ HasSnapshot bytes head snapshot) → Begins bytes Bad
-begins_broken bytes head found none = (gate_there bytes found.0,
-  λ other snapshot has. none (take head.size (drop 64 bytes)) (snapshot_of bytes head other snapshot found has))
+begins_broken bytes head found none = (
+  gate_there bytes found.0,
+  λ other snapshot has. none (take head.size (drop 64 bytes)) (snapshot_of bytes head other snapshot found has),
+)
 
 -- the first 64 bytes, taken apart
 first_parts : (text : List ℕ) → length text ≡ 64 → get_or text 0 0 ≡ 0x4A → text ≡ 0x4A ∷ (take 31 (drop 1 text) ++ take 32 (drop 32 text))

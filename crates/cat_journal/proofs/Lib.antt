@@ -12,3 +12,4 @@ pub mod Fronts
 pub mod HeadsRead
 pub mod Opens
 pub mod Standing
+pub mod Turning

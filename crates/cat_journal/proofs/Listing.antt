@@ -1,8 +1,8 @@
 -- Entries that are read one behind the other.
-use Rattle.std.proofs.Common.{◌≡◌, ℕ, ◌+◌, ◌-◌, ◌<◌, ◌≤◌, Bool, true, false, List, [], ◌∷◌, ◌++◌, length, refl, sym, ap, subst, ◌∙◌, append_assoc, arith}
-use Rattle.std.proofs.lemmas.List.{append-nil, length-append, nil_from_length}
+use Rattle.std.proofs.Common.{◌≡◌, ℕ, ◌+◌, ◌-◌, ◌≤◌, List, [], ◌∷◌, ◌++◌, length, refl, sym, ap, subst, ◌∙◌, append_assoc, arith}
+use Rattle.std.proofs.lemmas.List.{length-append, nil_from_length}
 use Rattle.cat_journal.specs.Layout.{IsEntry, entry_text}
-use Rattle.cat_journal.specs.Contents.{number_after, last_of, entries_text, AreEntries, IsClosed, IsBroken}
+use Rattle.cat_journal.specs.Contents.{number_after, last_of, entries_text, AreEntries}
 use Rattle.cat_journal.specs.Entries.{entry_at, entries_of, with_entry, EndsSo, FindsEntries}
 use Rattle.cat_journal.specs.Reads.{PiecesView, ahead, IsOf, FindsEntry}
 use Rattle.cat_journal.specs.declared.entries.EntryRead.{EntryRead}

@@ -1,9 +1,9 @@
 -- The bytes of two files have one meaning.
-use Rattle.std.proofs.Common.{◌≡◌, ◌≢◌, ◌⊎◌, ℕ, ◌+◌, ◌<◌, ◌≤◌, ◌^◌, List, [], ◌∷◌, ◌++◌, length, take, drop, get_or, refl, sym, ap, subst, ◌∙◌, append_assoc, arith, inl, inr}
+use Rattle.std.proofs.Common.{◌≡◌, ◌⊎◌, ℕ, ◌+◌, List, [], ◌∷◌, ◌++◌, length, take, drop, get_or, refl, sym, ap, subst, ◌∙◌, append_assoc, arith, inl, inr}
 use Rattle.std.proofs.lemmas.List.{append_cancel_left}
 use Rattle.room_disk.specs.Disk.{Image}
 use Rattle.cat_journal.specs.Layout.{Head, front_text, entry_text, IsEntry}
-use Rattle.cat_journal.specs.Contents.{Contents, contents_of, contents_text, gate_of, number_after, last_of, last_number, entries_text, AreEntries, AreContents, IsFront, IsClosed, IsBroken, Holds, BreaksBehind}
+use Rattle.cat_journal.specs.Contents.{Contents, contents_of, contents_text, gate_of, number_after, last_of, last_number, entries_text, AreEntries, AreContents, IsClosed, IsBroken, Holds, BreaksBehind}
 use Rattle.cat_journal.specs.Meaning.{Front, Shut, Open, Bad, HasFront, Begins, Meaning, Unopened, Damaged, Stands, CurrentMeans, FrontsMean, Means}
 use Rattle.cat_journal.proofs.Spelled.{reads_front, reads_entry}
 

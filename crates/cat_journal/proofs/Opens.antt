@@ -1,17 +1,16 @@
 -- What is found as a journal is opened, and what the two files mean.
-use Rattle.std.proofs.Common.{◌≡◌, ◌≢◌, ◌⊎◌, ℕ, ◌+◌, ◌-◌, ◌<◌, ◌≤◌, ◌^◌, Bool, not, true, false, List, [], ◌∷◌, ◌++◌, length, take, drop, refl, sym, ap, subst, ◌∙◌, append_assoc, arith, inl, inr}
-use Rattle.std.specs.Prelude.{Option, Some, None, Result, Ok, Err}
-use Rattle.std.proofs.lemmas.List.{length-append, length-take, length-drop, drop_at, append-nil}
+use Rattle.std.proofs.Common.{◌≡◌, ℕ, ◌+◌, ◌<◌, ◌≤◌, Bool, not, true, false, List, [], ◌∷◌, ◌++◌, length, take, drop, refl, sym, ap, subst, ◌∙◌, append_assoc, arith, inl, inr}
+use Rattle.std.specs.Prelude.{Option, Some, Result, Ok, Err}
+use Rattle.std.proofs.lemmas.List.{length-append, length-take, length-drop, drop_at}
 use Rattle.room_disk.specs.Disk.{Image}
 use Rattle.cat_journal.specs.Layout.{Head, front_text}
-use Rattle.cat_journal.specs.Contents.{Contents, contents_of, contents_text, gate_of, last_number, entries_text, last_of, AreContents, IsBroken, Holds, BreaksBehind}
-use Rattle.cat_journal.specs.Meaning.{Front, Shut, Open, Bad, HasFront, Begins, Meaning, Unopened, Damaged, Stands, CurrentMeans, FrontsMean, Means}
+use Rattle.cat_journal.specs.Contents.{Contents, contents_of, contents_text, gate_of, last_number, entries_text, AreContents, IsBroken}
+use Rattle.cat_journal.specs.Meaning.{Shut, Open, Bad, HasFront, Begins, Meaning, Unopened, Damaged, Stands, CurrentMeans, Means}
 use Rattle.cat_journal.specs.Reads.{PiecesView, ahead}
 use Rattle.cat_journal.specs.Entries.{entries_of, FindsEntries}
-use Rattle.cat_journal.specs.Heads.{FindsHead, IsFileHead, head_of, HasSnapshot, FindsSnapshot, ChecksSnapshot}
+use Rattle.cat_journal.specs.Heads.{FindsHead, IsFileHead, head_of, HasSnapshot, ChecksSnapshot}
 use Rattle.cat_journal.specs.Journal.{JournalView}
-use Rattle.cat_journal.specs.Opening.{at_contents, GivesContents, GivesNothing, Gives, Opens, IsBadFile, FindsFront, ChecksFront, OpensFile, OpensAlone}
-use Rattle.cat_journal.specs.declared.current.CurrentFile.{CurrentFile}
+use Rattle.cat_journal.specs.Opening.{GivesContents, Gives, Opens, IsBadFile, ChecksFront, OpensFile, OpensAlone}
 use Rattle.cat_journal.specs.declared.entry_list.EntryList.{EntryList}
 use Rattle.cat_journal.specs.declared.front.FileHead.{FileHead}
 use Rattle.cat_journal.specs.declared.front.FrontRead.{FrontRead}
@@ -131,8 +130,7 @@ pub opens_broken : (file : ℕ) (bytes : List ℕ) (head : FileHead) (snapshot :
     → length snapshot ≡ head.size → FindsEntries head.form head.number (64 + head.size) has.rest list → list.closed ≡ false
     → OpensFile file bytes (head_of head) snapshot (Err (faults.Damaged file list.gate))
 opens_broken file bytes head snapshot list has sized found open_end =
-    let made = behind_front bytes (head_of head) snapshot head.size list has sized found in
-    (
+    let made = behind_front bytes (head_of head) snapshot head.size list has sized found in (
       refl,
       (found.payloads, record { allowed = made.allowed; rest = found.rest; text = made.text; broken = subst_last found.rest list (last_number (contents_of (head_of head) snapshot found.payloads)) made.last (rw open_end at found.ends) }, made.gate),
     )

@@ -1,11 +1,11 @@
 -- What is read of a front and of an entry that stand in bytes.
-use Rattle.std.proofs.Common.{◌≡◌, ◌⊎◌, ℕ, ◌+◌, ◌<◌, ◌≤◌, ◌^◌, List, [], ◌∷◌, ◌++◌, length, take, drop, replicate, get_or, refl, sym, ap, subst, ◌∙◌, append_assoc, arith, inl, inr}
+use Rattle.std.proofs.Common.{◌≡◌, ℕ, ◌+◌, ◌<◌, ◌^◌, List, ◌∷◌, ◌++◌, length, take, drop, replicate, get_or, refl, sym, ap, subst, ◌∙◌, append_assoc, arith, inl, inr}
 use Rattle.std.proofs.lemmas.List.{length-append, take_at, drop_at, drop-drop}
 use Rattle.sha2.specs.Sha256.{sha256}
 use Rattle.sha2.proofs.Facts256.{length-sha256}
 use Rattle.byteorder.specs.Endian.{big_bytes, big_number}
 use Rattle.byteorder.specs.Numbers.{big_number-reads_back}
-use Rattle.cat_journal.specs.Layout.{Head, HasForm, IsHead, head_text, front_text, entry_fields, entry_text, IsEntry}
+use Rattle.cat_journal.specs.Layout.{Head, IsHead, head_text, front_text, entry_fields, entry_text, IsEntry}
 use Rattle.cat_journal.specs.Contents.{IsFront}
 use Rattle.cat_journal.specs.Fields.{form_in, generation_in, number_in, size_in, entry_number_in, entry_size_in}
 

@@ -1,13 +1,11 @@
 -- A journal whose files are those that it knows: what is so again once a call has written one of them.
-use Rattle.std.proofs.Common.{◌≡◌, ◌≢◌, ◌⊎◌, ℕ, ◌+◌, ◌-◌, ◌<◌, ◌≤◌, ◌^◌, List, [], ◌∷◌, ◌++◌, length, get_or, refl, sym, ap, subst, ◌∙◌, append_assoc, arith, inl, inr}
-use Rattle.std.specs.Prelude.{Option, Some, None}
+use Rattle.std.proofs.Common.{◌≡◌, ◌⊎◌, ℕ, ◌+◌, ◌-◌, List, [], ◌∷◌, ◌++◌, length, refl, sym, ap, subst, ◌∙◌, append_assoc, arith, inl, inr, ◌≤◌, Option, Some, None}
 use Rattle.std.proofs.lemmas.List.{append-nil, length-append}
 use Rattle.room_disk.specs.Disk.{Image}
-use Rattle.room_disk.specs.Crash.{AnewTorn}
 use Rattle.cat_journal.specs.Layout.{Head, front_text}
-use Rattle.cat_journal.specs.Contents.{Contents, contents_of, with_payload, contents_text, gate_of, last_number, number_after, entries_text, IsFront, AreContents, Holds}
-use Rattle.cat_journal.specs.Meaning.{Front, Shut, Open, Bad, HasFront, Begins, Meaning, Unopened, Damaged, Stands, CurrentMeans, FrontsMean, Means}
-use Rattle.cat_journal.specs.Journal.{JournalView, EndAt, IsAt, KnowsContents, StandOn, KnowsFiles, file_of, form_of, behind_entry, MayAddEntry, next_file, next_generation, next_head, new_head, new_text, in_new_file, turned_over, IsShut, IsFile, IsKnown}
+use Rattle.cat_journal.specs.Contents.{Contents, contents_of, with_payload, gate_of, last_number, number_after, entries_text, IsFront, Holds}
+use Rattle.cat_journal.specs.Meaning.{Front, Shut, Open, Bad, HasFront, Begins, Stands, CurrentMeans, FrontsMean, Means}
+use Rattle.cat_journal.specs.Journal.{JournalView, EndAt, KnowsContents, file_of, MayAddEntry, new_text, IsAt, behind_entry, form_of}
 use Rattle.cat_journal.specs.declared.current.CurrentFile.{CurrentFile}
 use Rattle.cat_journal.proofs.Spelling.{last_more, length-front_text}
 use Rattle.cat_journal.proofs.Adding.{gate_more}
@@ -36,11 +34,11 @@ new_holds bytes head snapshot allowed is =
       closed = λ opens. absurd (omega (arith, opens));
     }
 
-new_gate : (head : Head) (snapshot : List ℕ) → gate_of (contents_of head snapshot []) ≡ 64 + length snapshot
+pub new_gate : (head : Head) (snapshot : List ℕ) → gate_of (contents_of head snapshot []) ≡ 64 + length snapshot
 new_gate head snapshot =
     length-append (0x4A ∷ front_text head snapshot) [] ∙ omega (arith, length-front_text head snapshot)
 
-begins_same : (one other : List ℕ) (front : Front) → one ≡ other → Begins other front → Begins one front
+pub begins_same : (one other : List ℕ) (front : Front) → one ≡ other → Begins other front → Begins one front
 begins_same one other front same begins = subst (λ (t : List ℕ). Begins t front) (sym same) begins
 
 -- ---- one entry more
@@ -49,15 +47,14 @@ begins_same one other front same begins = subst (λ (t : List ℕ). Begins t fro
 abbrev pub other_file : ℕ → ℕ
 other_file file = 1 - file
 
-current_again : (file which : ℕ) (files image : Image) (head : Head) (snapshot : List ℕ) (contents more : Contents)
+pub current_again : (file which : ℕ) (files image : Image) (head : Head) (snapshot : List ℕ) (contents more : Contents)
     → CurrentMeans which (files which) head snapshot (Stands file contents) → more.head ≡ contents.head → more.snapshot ≡ contents.snapshot
     → Holds (image file) more → (file ≡ which) × HasFront (image which) head snapshot × CurrentMeans which (image which) head snapshot (Stands file more)
 current_again file which files image head snapshot contents more is heads snapshots held =
     let P : ℕ → Type 0 = λ w. Holds (image w) more in
     let here = subst P is.0 held in
     let Q : Head → Type 0 = λ h. HasFront (image which) h snapshot in
-    let R : List ℕ → Type 0 = λ s. HasFront (image which) more.head s in
-    (
+    let R : List ℕ → Type 0 = λ s. HasFront (image which) more.head s in (
       is.0,
       subst Q (heads ∙ is.1) (subst R (snapshots ∙ is.2) (front_of_held (image which) more here)),
       (is.0, heads ∙ is.1, snapshots ∙ is.2, here),
@@ -81,13 +78,23 @@ stands_of files image file contents more Shut (Open head snapshot) begins also i
 stands_of files image file contents more (Open head snapshot) (Open twin late) begins also (inl is) heads snapshots held same =
     let again = current_again file 1 files image twin late contents more is.1 heads snapshots held in
     let P : ℕ → Type 0 = λ f. image (1 - f) ≡ files (1 - f) in
-    record { first = Open head snapshot; second = Open twin late; begins = begins_same (image 0) (files 0) (Open head snapshot) (subst P again.0 same) begins;
-      also = again.1; is = inl (is.0, again.2) }
+    record {
+      first = Open head snapshot;
+      second = Open twin late;
+      begins = begins_same (image 0) (files 0) (Open head snapshot) (subst P again.0 same) begins;
+      also = again.1;
+      is = inl (is.0, again.2);
+    }
 stands_of files image file contents more (Open head snapshot) (Open twin late) begins also (inr is) heads snapshots held same =
     let again = current_again file 0 files image head snapshot contents more is.1 heads snapshots held in
     let P : ℕ → Type 0 = λ f. image (1 - f) ≡ files (1 - f) in
-    record { first = Open head snapshot; second = Open twin late; begins = again.1;
-      also = begins_same (image 1) (files 1) (Open twin late) (subst P again.0 same) also; is = inr (is.0, again.2) }
+    record {
+      first = Open head snapshot;
+      second = Open twin late;
+      begins = again.1;
+      also = begins_same (image 1) (files 1) (Open twin late) (subst P again.0 same) also;
+      is = inr (is.0, again.2);
+    }
 
 -- the contents of the current file are others, behind the same front
 pub stands_with : (files image : Image) (file : ℕ) (contents more : Contents) → Means files (Stands file contents) → more.head ≡ contents.head
@@ -137,3 +144,22 @@ knows_more current last contents payload at =
           ∙ ap (λ (f : ℕ). number_after f (last_number contents) payload) at.form
           ∙ sym (last_more form contents.head.number contents.payloads payload);
     }
+
+file_of_fronts : (files : Image) (file : ℕ) (contents : Contents) (first second : Front) → FrontsMean files first second (Stands file contents) → file ≤ 1
+file_of_fronts files file contents Bad second is = absurd (cc is)
+file_of_fronts files file contents Shut Bad is = absurd (cc is)
+file_of_fronts files file contents (Open head snapshot) Bad is = absurd (cc is)
+file_of_fronts files file contents Shut Shut is = absurd (cc is)
+file_of_fronts files file contents (Open head snapshot) Shut is = omega (arith, is.0)
+file_of_fronts files file contents Shut (Open head snapshot) is = omega (arith, is.0)
+file_of_fronts files file contents (Open head snapshot) (Open twin late) (inl is) = omega (arith, is.1.0)
+file_of_fronts files file contents (Open head snapshot) (Open twin late) (inr is) = omega (arith, is.1.0)
+
+-- the current file is one of the two
+pub file_is : (files : Image) (file : ℕ) (contents : Contents) → Means files (Stands file contents) → file ≤ 1
+file_is files file contents means = file_of_fronts files file contents means.first means.second means.is
+
+pub knows_behind : (place : Option CurrentFile) (last : ℕ) (contents : Contents) (payload : List ℕ) → IsAt place last contents
+    → IsAt (behind_entry place (length payload)) (number_after (form_of place) last payload) (with_payload contents payload)
+knows_behind None last contents payload knows = absurd knows
+knows_behind (Some current) last contents payload knows = knows_more current last contents payload knows

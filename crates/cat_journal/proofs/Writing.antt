@@ -1,5 +1,5 @@
 -- Calls that write one file of a journal.
-use Rattle.std.proofs.Common.{◌≡◌, ℕ, List, sym, subst}
+use Rattle.std.proofs.Common.{◌≡◌, ℕ, List, subst}
 use Rattle.std.specs.Prelude.{Result, Ok}
 use Rattle.room_disk.specs.Disk.{DiskView}
 use Rattle.room_disk.specs.Crash.{IsAnew, AnewTorn}

@@ -1,5 +1,5 @@
 -- The entries that are read of a file.
-use Rattle.std.specs.Prelude.{◌≡◌, ℕ, ◌+◌, ◌<◌, ◌≤◌, ◌^◌, Bool, true, false, List, [], ◌∷◌, ◌++◌}
+use Rattle.std.specs.Prelude.{◌≡◌, ℕ, ◌+◌, ◌<◌, ◌≤◌, Bool, true, false, List, [], ◌∷◌, ◌++◌}
 use Rattle.std.specs.Prelude.{length, IsTrue}
 use Rattle.cat_journal.specs.Contents.{number_after, last_of, entries_text, AreEntries, IsClosed}
 use Rattle.cat_journal.specs.Contents.{IsBroken}

@@ -1,9 +1,8 @@
 -- The fields of heads and entries, as they are read where they stand.
-use Rattle.std.specs.Prelude.{◌≡◌, ℕ, ◌+◌, ◌≤◌, List, [], ◌∷◌, ◌++◌, length, take, drop, replicate}
+use Rattle.std.specs.Prelude.{ℕ, List, drop}
 use Rattle.std.specs.Prelude.{slice_index}
 use Rattle.byteorder.specs.Endian.{big_number}
-use Rattle.sha2.specs.Sha256.{sha256}
-use Rattle.cat_journal.specs.Layout.{Head, head_text}
+use Rattle.cat_journal.specs.Layout.{Head}
 
 -- ---- a head, at the front of a file's bytes
 

@@ -1,12 +1,13 @@
 -- What a journal in memory knows of its files, and what its calls write.
 use Rattle.std.specs.Prelude.{◌≡◌, ◌≢◌, ◌⊎◌, ℕ, ◌+◌, ◌-◌, ◌<◌, ◌≤◌, ◌^◌, List, [], ◌∷◌, ◌++◌}
-use Rattle.std.specs.Prelude.{Option, Some, None, Result, OnOk, OnErr, slice_index, IsTrue}
+use Rattle.std.specs.Prelude.{Option, Some, None, Result, OnOk, OnErr, slice_index, IsTrue, length}
 use Rattle.room_base.specs.Faults.{Rose}
 use Rattle.room_base.specs.Outside.{Told}
 use Rattle.room_disk.specs.Disk.{DiskView, Image, Leaves, OthersThan, OthersLeft, Settled}
 use Rattle.cat_journal.specs.declared.current.CurrentFile.{CurrentFile}
 use Rattle.cat_journal.specs.Layout.{Head, HasForm, front_text}
-use Rattle.cat_journal.specs.Contents.{Contents, with_payload, last_number, gate_of, is_part, Holds}
+use Rattle.cat_journal.specs.Contents.{Contents, with_payload, last_number, gate_of, is_part}
+use Rattle.cat_journal.specs.Contents.{number_after, Holds}
 use Rattle.cat_journal.specs.Meaning.{Means, Unopened, Stands}
 
 -- `last` is the number of the last change, and `spare` the length of an entry's bytes that there is
@@ -76,6 +77,13 @@ KnowsFiles journal files = StandOn journal.current journal.last files
 abbrev pub behind_entry : Option CurrentFile → ℕ → Option CurrentFile
 behind_entry None size = None
 behind_entry (Some current) size = Some (record current { gate = current.gate + (45 + size) })
+
+-- the journal behind one entry more
+abbrev pub behind_payload : JournalView → List ℕ → JournalView
+behind_payload journal payload = record journal {
+  current = behind_entry journal.current (length payload);
+  last = number_after (form_of journal.current) journal.last payload;
+}
 
 -- a file of the journal has one entry more
 abbrev pub AddsEntry : JournalView → List ℕ → List ℕ → List ℕ → Type 0

@@ -1,6 +1,6 @@
 -- What opening a journal finds.
-use Rattle.std.specs.Prelude.{◌≡◌, ◌⊎◌, ℕ, ◌+◌, ◌≤◌, List, [], length, Option, Some, None, Result, Ok}
-use Rattle.std.specs.Prelude.{Err, IfErr}
+use Rattle.std.specs.Prelude.{◌≡◌, ◌⊎◌, ℕ, ◌+◌, ◌≤◌, List, [], length, Option, Some, None}
+use Rattle.std.specs.Prelude.{Result, Ok, Err, IfErr}
 use Rattle.room_base.specs.Faults.{Rose}
 use Rattle.room_disk.specs.Disk.{DiskView, Image}
 use Rattle.cat_journal.specs.Layout.{Head}

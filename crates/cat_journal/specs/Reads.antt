@@ -1,6 +1,6 @@
 -- What is read of a journal's files.
-use Rattle.std.specs.Prelude.{◌≡◌, ◌≢◌, ◌⊎◌, ℕ, ◌+◌, ◌-◌, ◌<◌, ◌≤◌, ◌^◌, Bool, true, false, List, [], ◌∷◌}
-use Rattle.std.specs.Prelude.{◌++◌, length, take, drop, min, Result, IfErr, Option, Some, None}
+use Rattle.std.specs.Prelude.{◌≡◌, ◌≢◌, ℕ, ◌+◌, ◌-◌, ◌<◌, ◌≤◌, ◌^◌, Bool, true, false, List, []}
+use Rattle.std.specs.Prelude.{◌∷◌, ◌++◌, length, take, drop, min, Result, IfErr, Option, Some, None}
 use Rattle.byteorder.specs.Endian.{big_bytes}
 use Rattle.room_base.specs.Faults.{Rose}
 use Rattle.room_disk.specs.Disk.{DiskView}

@@ -4,8 +4,8 @@ ghost use Rattle.std.specs.Prelude.{◌≡◌, ◌<◌, ◌≤◌, ◌+◌, ◌^
 ghost use Rattle.room_base.specs.Outside.{Told};
 ghost use Rattle.room_disk.specs.Disk.{Quiet};
 ghost use Rattle.cat_journal.specs.Fields.{entry_size_in};
-ghost use Rattle.cat_journal.specs.Reads.{ReadCause, ahead, IsOf, TakesBytes, HasFields, SpellsFields};
-ghost use Rattle.cat_journal.specs.Reads.{FindsBehind, FindsEntry, FitsRoom};
+ghost use Rattle.cat_journal.specs.Reads.{ReadCause, ahead, IsOf, TakesBytes, HasFields};
+ghost use Rattle.cat_journal.specs.Reads.{SpellsFields, FindsBehind, FindsEntry, FitsRoom};
 
 use crate::digest::{DIGEST_SIZE, has_digest};
 use crate::entry::{BYTES_PLACE, ENTRY_GATE, FRAME_SIZE};

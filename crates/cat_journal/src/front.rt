@@ -6,8 +6,8 @@ ghost use Rattle.room_base.specs.Outside.{Told};
 ghost use Rattle.room_disk.specs.Disk.{Quiet};
 ghost use Rattle.cat_journal.specs.Layout.{HasForm};
 ghost use Rattle.cat_journal.specs.Reads.{ReadCause};
-ghost use Rattle.cat_journal.specs.Heads.{IsHeadText, file_head, FindsHead, IsFileHead, HasFileHead};
-ghost use Rattle.cat_journal.specs.Heads.{FindsSnapshot, ChecksSnapshot, DigestsPart};
+ghost use Rattle.cat_journal.specs.Heads.{IsHeadText, file_head, FindsHead, IsFileHead};
+ghost use Rattle.cat_journal.specs.Heads.{HasFileHead, FindsSnapshot, ChecksSnapshot, DigestsPart};
 
 use crate::digest::{DIGEST_SIZE, has_digest, same_digest};
 use crate::head::{FIELDS_SIZE, FILE_GATE, FORM, FRONT_SIZE};
@@ -147,7 +147,8 @@ pub(crate) fn read_snapshot<D: Store>(
     file: u32,
     head: &FileHead,
 ) -> Result<Option<Items<u8>>, ReadFault>
-    ensures size { IfOk result (λ found. IfSome found (λ snapshot. length snapshot ≡ head.now.size)) }
+    ensures size { IfOk result (λ found.
+        IfSome found (λ snapshot. length snapshot ≡ head.now.size)) }
     ensures cause { ReadCause file (D.view store.old) (D.view store.new) result }
     ensures tells { (D.view store.new).tells ≡ (D.view store.old).tells }
     ensures quiet { Told (D.view store.old).tells (Quiet (D.view store.old) (D.view store.new)) }
@@ -187,7 +188,13 @@ pub(crate) fn check_snapshot<D: Store>(
     let mut done = 0;
     while done < head.size {
         let count = (head.size - done).min(PIECE_SIZE as u64) as usize;
-        if !digest_part(store, file, FRONT_SIZE + done, &mut piece[..count], &mut hasher)? {
+        if !digest_part(
+            store,
+            file,
+            FRONT_SIZE + done,
+            &mut piece[..count],
+            &mut hasher,
+        )? {
             return Ok(false);
         }
         done += count as u64;

@@ -4,15 +4,17 @@ ghost use Rattle.std.specs.Prelude.{◌≡◌, ◌≤◌, ◌<◌, ◌+◌, ◌-
 ghost use Rattle.std.specs.Prelude.{IfOk, IsOk, OnOk, OnErr, MatchOption};
 ghost use Rattle.room_disk.specs.Crash.{Overlays, GatedTorn, IsAnew, AnewTorn};
 ghost use Rattle.room_disk.specs.Writing.{WritesFile};
-ghost use Rattle.cat_journal.specs.Journal.{IsKnown, IsOpen, IsPart, file_of, form_of, behind_entry};
-ghost use Rattle.cat_journal.specs.Journal.{AddsEntry, MayAddEntry, IsLast, next_file, next_generation, next_head};
+ghost use Rattle.cat_journal.specs.Journal.{IsKnown, IsOpen, IsPart, file_of, form_of};
+ghost use Rattle.cat_journal.specs.Journal.{behind_entry, AddsEntry, MayAddEntry, IsLast};
+ghost use Rattle.cat_journal.specs.Journal.{next_file, next_generation, next_head};
 ghost use Rattle.cat_journal.specs.Journal.{new_text, in_new_file, turned_over, new_head};
 ghost use Rattle.cat_journal.specs.Journal.{first_head, MakesAnew};
+ghost use Rattle.cat_journal.specs.Contents.{IsFront};
 ghost use Rattle.cat_journal.specs.Layout.{entry_text};
 
 use crate::current::CurrentFile;
-use crate::entry::{ENTRY_GATE, FRAME_SIZE, spell_entry};
 use crate::digest::digest_of;
+use crate::entry::{ENTRY_GATE, FRAME_SIZE, spell_entry};
 use crate::head::{FILE_GATE, FORM, FRONT_SIZE, spell_fields};
 use room_base::{Failed, Memory};
 use room_disk::{Store, write_anew, write_gated, write_synced, write_unsynced};
@@ -129,6 +131,7 @@ impl Journal {
         ensures moved { ¬ IsLast self.old → OnOk result
             (self.new ≡ turned_over self.old (length snapshot.now)) }
         ensures kept { OnErr result (self.new ≡ self.old) }
+        ensures allowed { ¬ IsLast self.old → IsFront (next_head self.old) snapshot.now }
         ensures writes { ¬ IsLast self.old → WritesFile (next_file self.old.current)
             (IsAnew 0x4A (new_text (next_head self.old) snapshot.now))
             (AnewTorn 0x4A (new_text (next_head self.old) snapshot.now))
@@ -152,6 +155,7 @@ impl Journal {
     ) -> Result<Journal, Failed>
         ensures journal { IfOk result (λ journal. journal ≡ in_new_file 0 1
             (record { current = None; last = number; spare = 0 }) (length snapshot.now)) }
+        ensures allowed { IsFront (first_head number) snapshot.now }
         ensures makes { MakesAnew (new_text (first_head number) snapshot.now)
             (D.view store.old) (D.view store.new) result }
     {
@@ -247,12 +251,7 @@ fn write_entry<D: Store>(
 
 // Writes what stands behind the gate of an entry, and then the gate. Answers the place of its last
 // byte, which is the next gate.
-fn write_behind<D: Store>(
-    store: &mut D,
-    file: u32,
-    gate: u64,
-    text: &[u8],
-) -> Result<u64, Failed>
+fn write_behind<D: Store>(store: &mut D, file: u32, gate: u64, text: &[u8]) -> Result<u64, Failed>
     requires gate { gate + 1 < 2 ^ 64 }
     ensures next { IfOk result (λ next. next ≡ gate + length text.now) }
     ensures fits { IfOk result (λ next. next + 1 < 2 ^ 64) }

@@ -18,5 +18,8 @@ mod reading;
 pub use current::CurrentFile;
 pub use entry_list::Entry;
 pub use journal::Journal;
-pub use laws::{every_meaning, one_meaning};
+pub use laws::{
+    a_fresh_journal_is_its_snapshot, a_turn_over_is_whole_or_absent, an_entry_is_whole_or_absent,
+    every_meaning, one_meaning,
+};
 pub use opening::{OpenFault, Opened};

@@ -58,9 +58,9 @@ impl From<ReadFault> for OpenFault {
 }
 
 impl Journal {
-    /// Opens the journal. It begins with a sync of both files; then it reads both heads, and of each
-    /// open file its snapshot, once, and the entries of the current one. It holds no more than the
-    /// current file and one piece.
+    /// Opens the journal. It begins with a sync of both files; then it reads both heads, and of
+    /// each open file its snapshot, once, and the entries of the current one. It holds no more than
+    /// the current file and one piece.
     pub fn open<D: Store>(alloc: Global, store: &mut D) -> Result<Opened, OpenFault>
         ensures cause { OpenCause (D.view store.old) (D.view store.new) result }
         ensures tells { (D.view store.new).tells ≡ (D.view store.old).tells }

@@ -1,6 +1,6 @@
 //! How a journal's files are read: whole parts, or in large pieces.
 
-ghost use Rattle.std.specs.Prelude.{◌≡◌, ◌≤◌, ◌<◌, ◌-◌, [], min, length, take, drop, IfOk, IfErr, OnOk};
+ghost use Rattle.std.specs.Prelude.{◌≡◌, ◌≤◌, [], min, length, take, drop, IfOk, IfErr, OnOk};
 ghost use Rattle.room_base.specs.Outside.{Told};
 ghost use Rattle.room_disk.specs.Disk.{Quiet};
 ghost use Rattle.cat_journal.specs.declared.reading.ReadFault.TheVariants.{Memory};
@@ -165,11 +165,7 @@ impl Pieces {
     }
 
     // Fills a front of `into`, and answers how long it is.
-    fn take_some<D: Store>(
-        &mut self,
-        store: &mut D,
-        into: &mut [u8],
-    ) -> Result<usize, ReadFault>
+    fn take_some<D: Store>(&mut self, store: &mut D, into: &mut [u8]) -> Result<usize, ReadFault>
         ensures file { self.new.file ≡ self.old.file }
         ensures end { self.new.end ≡ self.old.end }
         ensures size { length into.new ≡ length into.old }

@@ -1,7 +1,7 @@
-use Rattle.std.proofs.Common.{◌≡◌, ◌≢◌, ◌+◌, ◌++◌, ◌∙◌, List, ℕ, length, ap, sym, subst, arith, Bool, true, false}
-use Rattle.std.specs.Prelude.{IsTrue, Option, Some, None}
+use Rattle.std.proofs.Common.{◌≡◌, ◌≢◌, ◌+◌, ◌++◌, ◌∙◌, List, ℕ, length, ap, sym, arith}
+use Rattle.std.specs.Prelude.{IsTrue, None}
 use Rattle.sha2.specs.Sha256.{sha256}
-use Rattle.cat_journal.specs.Reads.{ahead, IsOf, Fills, TakesBytes, PiecesView}
+use Rattle.cat_journal.specs.Reads.{ahead, IsOf}
 use Rattle.cat_journal.proofs.Handing.{fills_at, takes_at}
 use Rattle.cat_journal.proofs.Finding.{no_fields, no_such, no_bytes, no_digest, wrong_digest, is_first}
 use Rattle.cat_journal.proofs.entries.read_behind.Goals as goal

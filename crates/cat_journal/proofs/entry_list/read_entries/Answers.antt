@@ -1,11 +1,9 @@
-use Rattle.std.proofs.Common.{◌≡◌, ◌+◌, ◌-◌, ◌≤◌, ◌∙◌, ℕ, List, false, length, sym, ap, subst, arith}
-use Rattle.std.specs.Prelude.{IsTrue, IfOk}
-use Rattle.std.proofs.lemmas.List.{length-append}
+use Rattle.std.proofs.Common.{◌≡◌, ◌+◌, ◌-◌, ◌∙◌, ap, arith}
+use Rattle.std.specs.Prelude.{IsTrue}
 use Rattle.room_disk.proofs.Runs.{quiet_then}
-use Rattle.cat_journal.specs.Reads.{PiecesView, ahead, IsOf, FindsEntry, FitsRoom}
+use Rattle.cat_journal.specs.Reads.{ahead}
 use Rattle.cat_journal.specs.declared.entry_list.EntryList.{EntryList}
-use Rattle.cat_journal.specs.declared.entries.EntryRead.TheVariants as read
-use Rattle.cat_journal.proofs.Listing.{EntriesSoFar, one_more, room_ahead, finds_at}
+use Rattle.cat_journal.proofs.Listing.{one_more, room_ahead, finds_at}
 use Rattle.cat_journal.proofs.entry_list.read_entries.Goals as goal
 
 pub loop-list-preserved : goal.loop-list-preserved

@@ -1,6 +1,5 @@
-use Rattle.std.proofs.Common.{◌≡◌, ◌+◌, ◌≤◌, ℕ, length, sym, ap, subst, arith}
+use Rattle.std.proofs.Common.{◌≤◌, sym, ap, subst, arith}
 use Rattle.cat_journal.specs.Layout.{HasForm}
-use Rattle.cat_journal.specs.Fields.{size_in}
 use Rattle.cat_journal.specs.Heads.{IsHeadText, IsFileHead}
 use Rattle.cat_journal.specs.declared.front.FileHead.{FileHead}
 use Rattle.cat_journal.proofs.HeadsRead.{is_file_head}

@@ -1,4 +1,4 @@
-use Rattle.std.proofs.Common.{◌≡◌, ◌∙◌, ℕ, List, length, take, ap, subst}
+use Rattle.std.proofs.Common.{◌≡◌, ◌∙◌, ℕ, List, take, ap, subst}
 use Rattle.std.specs.Prelude.{IsTrue}
 use Rattle.cat_journal.specs.Heads.{FindsHead}
 use Rattle.cat_journal.proofs.Fronts.{first_bytes}

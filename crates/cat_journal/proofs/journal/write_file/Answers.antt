@@ -1,4 +1,3 @@
-use Rattle.std.proofs.Common.{◌≡◌, ◌∷◌, ◌++◌, [], length, List, ℕ}
 use Rattle.std.proofs.lemmas.Result.{err_from_is_err_and}
 use Rattle.room_disk.specs.Crash.{IsAnew, AnewTorn}
 use Rattle.room_disk.proofs.Writing.{writes_failed, writes_change}

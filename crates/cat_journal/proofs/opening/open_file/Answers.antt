@@ -1,4 +1,4 @@
-use Rattle.std.proofs.Common.{◌≡◌, ◌+◌, ◌∙◌, ℕ, List, [], length, true, false, sym, ap, subst, arith}
+use Rattle.std.proofs.Common.{◌≡◌, ◌+◌, ◌∙◌, ℕ, List, length, true, false, sym, ap, subst}
 use Rattle.cat_journal.specs.Reads.{PiecesView, ahead, IsOf}
 use Rattle.cat_journal.specs.Entries.{FindsEntries}
 use Rattle.cat_journal.proofs.Opens.{ahead_front, left_of_front, opens_held, opens_broken, not_true, not_false}

@@ -1,10 +1,9 @@
-use Rattle.std.proofs.Common.{◌≡◌, ◌∙◌, ℕ, List, length, take, sym, ap, subst, arith}
-use Rattle.std.specs.Prelude.{IsTrue, Err}
+use Rattle.std.proofs.Common.{◌≡◌, ◌∙◌, ℕ, length, take, subst}
+use Rattle.std.specs.Prelude.{IsTrue}
 use Rattle.std.proofs.lemmas.Result.{err_from_is_err_and}
 use Rattle.room_disk.specs.Disk.{Image}
 use Rattle.cat_journal.specs.Heads.{FindsHead}
 use Rattle.cat_journal.specs.Opening.{Opens}
-use Rattle.cat_journal.specs.declared.opening.OpenFault.{OpenFault}
 use Rattle.cat_journal.proofs.Opens.{finds_same}
 use Rattle.cat_journal.proofs.journal.Journal.open.Goals as goal
 

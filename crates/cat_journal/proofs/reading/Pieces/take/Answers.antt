@@ -1,8 +1,8 @@
-use Rattle.std.proofs.Common.{◌≡◌, ◌≤◌, ◌-◌, ◌+◌, ◌∙◌, ◌++◌, ℕ, List, take, drop, length, sym, ap, subst, arith}
+use Rattle.std.proofs.Common.{◌≡◌, ◌≤◌, ◌+◌, ◌∙◌, ◌++◌, ℕ, List, length, sym, ap, subst, arith}
 use Rattle.std.specs.Prelude.{IsTrue}
 use Rattle.std.proofs.lemmas.List.{length-append}
 use Rattle.room_disk.proofs.Runs.{quiet_then}
-use Rattle.cat_journal.specs.Reads.{ahead, IsOf, HandsOut, PiecesView}
+use Rattle.cat_journal.specs.Reads.{ahead, IsOf, HandsOut}
 use Rattle.cat_journal.proofs.Handing.{handed_more}
 use Rattle.cat_journal.proofs.reading.Pieces.take.Goals as goal
 

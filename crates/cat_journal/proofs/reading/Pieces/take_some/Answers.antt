@@ -1,4 +1,3 @@
-use Rattle.std.proofs.Common.{sym, ap}
 use Rattle.cat_journal.proofs.Handing.{hands_out}
 use Rattle.cat_journal.proofs.reading.Pieces.take_some.Goals as goal
 
