@@ -293,11 +293,27 @@ fn write_file<D: Store>(
     let size = snapshot.len() as u64;
     let fields = spell_fields(generation, number, size);
     let digest = digest_of(&fields, snapshot);
-    write_anew(store, file, FILE_GATE, &[&fields, &digest, snapshot, &[0]])?;
+    write_parts(store, file, &fields, &digest, snapshot)?;
     Ok(CurrentFile {
         file,
         form: FORM,
         generation,
         gate: FRONT_SIZE + size,
     })
+}
+
+// Writes a file anew of its parts, and the gate of its first entry, closed.
+fn write_parts<D: Store>(
+    store: &mut D,
+    file: u32,
+    fields: &[u8],
+    digest: &[u8],
+    snapshot: &[u8],
+) -> Result<(), Failed>
+    ensures { WritesFile file
+        (IsAnew 0x4A (fields.now ++ (digest.now ++ (snapshot.now ++ (0 ∷ [])))))
+        (AnewTorn 0x4A (fields.now ++ (digest.now ++ (snapshot.now ++ (0 ∷ [])))))
+        (D.view store.old) (D.view store.new) result }
+{
+    write_anew(store, file, FILE_GATE, &[fields, digest, snapshot, &[0]])
 }

@@ -6,16 +6,16 @@ use Rattle.cat_journal.proofs.Spelling.{file_parts}
 use Rattle.cat_journal.proofs.Writing.{writes_value, anew_as}
 use Rattle.cat_journal.proofs.journal.write_file.Goals as goal
 
-pub returns-in_err-write_anew-clause-writes : goal.returns-in_err-write_anew-clause-writes
-returns-in_err-write_anew-clause-writes g c =
+pub returns-in_err-write_parts-clause-writes : goal.returns-in_err-write_parts-clause-writes
+returns-in_err-write_parts-clause-writes g c =
     let text = new_text (new_head c.args.generation c.args.number) c.args.snapshot.now in
     writes_failed (IsAnew 0x4A text) (AnewTorn 0x4A text)
     (err_from_is_err_and c.from_residual.result c.from_residual.ensures.1).1
     (writes_change (anew_as 0x4A _ text
-    (file_parts c.args.generation c.args.number c.args.snapshot.now _ _ c.spell_fields-fields.ensures c.digest_of-digest.ensures) c.in_err-write_anew.ensures))
+    (file_parts c.args.generation c.args.number c.args.snapshot.now _ _ c.spell_fields-fields.ensures c.digest_of-digest.ensures) c.in_err-write_parts.ensures))
     (λ old new torn. torn)
 
 pub returns-clause-writes : goal.returns-clause-writes
 returns-clause-writes g c =
     writes_value _ (anew_as 0x4A _ _
-    (file_parts c.args.generation c.args.number c.args.snapshot.now _ _ c.spell_fields-fields.ensures c.digest_of-digest.ensures) c.in_ok-write_anew.ensures)
+    (file_parts c.args.generation c.args.number c.args.snapshot.now _ _ c.spell_fields-fields.ensures c.digest_of-digest.ensures) c.in_ok-write_parts.ensures)
