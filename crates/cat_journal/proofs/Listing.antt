@@ -1,9 +1,9 @@
 -- Entries that are read one behind the other.
 use Rattle.std.proofs.Common.{◌≡◌, ℕ, ◌+◌, ◌-◌, ◌≤◌, List, [], ◌∷◌, ◌++◌, length, refl, sym, ap, subst, ◌∙◌, append_assoc, arith}
-use Rattle.std.proofs.lemmas.List.{length-append, nil_from_length}
+use Rattle.std.proofs.lemmas.List.{map-append, length-append, nil_from_length}
 use Rattle.cat_journal.specs.Layout.{IsEntry, entry_text}
 use Rattle.cat_journal.specs.Contents.{number_after, last_of, entries_text, AreEntries}
-use Rattle.cat_journal.specs.Entries.{entry_at, entries_of, with_entry, EndsSo, FindsEntries}
+use Rattle.cat_journal.specs.Entries.{entry_at, entries_of, with_entry, payloads_of, IsCounted, EndsSo, FindsEntries}
 use Rattle.cat_journal.specs.Reads.{PiecesView, ahead, IsOf, FindsEntry}
 use Rattle.cat_journal.specs.declared.entries.EntryRead.{EntryRead}
 use Rattle.cat_journal.specs.declared.entry_list.Entry.{Entry}
@@ -107,3 +107,14 @@ pub finds_at : (bytes reads : List ℕ) (before after : PiecesView) (number room
 finds_at bytes reads before after number room found same is left finds =
     subst (λ (t : List ℕ). FindsEntry number (ahead before t) (ahead after t) found) same
     (finds (is ∙ ap length (sym same)) (left ∙ ap (λ (t : List ℕ). length (ahead before t)) (sym same)))
+
+-- the number of the last change, behind one entry more
+pub counted_more : (form number : ℕ) (list next : EntryList) (payload : List ℕ) → IsCounted form number list → next ≡ with_entry form list payload
+    → IsCounted form number next
+counted_more form number list next payload counted added =
+    let entries = list.entries in
+    let this = entry_at (list.last + 1) list.gate payload in
+    let listed : payloads_of next.entries ≡ payloads_of entries ++ payload ∷ [] =
+    ap (λ (l : EntryList). payloads_of l.entries) added ∙ map-append (λ (entry : Entry). entry.bytes) entries (this ∷ []) in
+    ap (λ (l : EntryList). l.last) added ∙ ap (λ (n : ℕ). number_after form n payload) counted
+    ∙ sym (last_more form number (payloads_of entries) payload) ∙ ap (last_of form number) (sym listed)

@@ -1,6 +1,6 @@
 -- The entries that are read of a file.
 use Rattle.std.specs.Prelude.{◌≡◌, ℕ, ◌+◌, ◌<◌, ◌≤◌, Bool, true, false, List, [], ◌∷◌, ◌++◌}
-use Rattle.std.specs.Prelude.{length, IsTrue}
+use Rattle.std.specs.Prelude.{length, map, IsTrue}
 use Rattle.cat_journal.specs.Contents.{number_after, last_of, entries_text, AreEntries, IsClosed}
 use Rattle.cat_journal.specs.Contents.{IsBroken}
 use Rattle.cat_journal.specs.declared.entry_list.Entry.{Entry}
@@ -44,3 +44,11 @@ with_entry form list payload = record {
   gate = list.gate + (45 + length payload);
   closed = list.closed;
 }
+
+-- the bytes of each entry
+abbrev pub payloads_of : List Entry → List (List ℕ)
+payloads_of entries = map (λ (entry : Entry). entry.bytes) entries
+
+-- the number of the last change is the one behind these entries
+abbrev pub IsCounted : ℕ → ℕ → EntryList → Type 0
+IsCounted form number list = list.last ≡ last_of form number (payloads_of list.entries)

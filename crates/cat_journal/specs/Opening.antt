@@ -4,12 +4,13 @@ use Rattle.std.specs.Prelude.{Result, Ok, Err, IfErr}
 use Rattle.room_base.specs.Faults.{Rose}
 use Rattle.room_disk.specs.Disk.{DiskView, Image}
 use Rattle.cat_journal.specs.Layout.{Head}
-use Rattle.cat_journal.specs.Contents.{Contents, gate_of, last_number}
+use Rattle.cat_journal.specs.Contents.{Contents, gate_of, last_number, last_of}
 use Rattle.cat_journal.specs.Meaning.{HasFront, Begins, Bad, Means, CurrentMeans, Unopened}
 use Rattle.cat_journal.specs.Meaning.{Damaged, Stands}
-use Rattle.cat_journal.specs.Entries.{entries_of}
+use Rattle.cat_journal.specs.Entries.{entries_of, payloads_of}
 use Rattle.cat_journal.specs.Heads.{head_of}
 use Rattle.cat_journal.specs.Journal.{JournalView, IsJournalFile}
+use Rattle.cat_journal.specs.declared.current.CurrentFile.{CurrentFile}
 use Rattle.cat_journal.specs.declared.front.FileHead.{FileHead}
 use Rattle.cat_journal.specs.declared.opening.Opened.{Opened}
 use Rattle.cat_journal.specs.declared.opening.OpenFault.{OpenFault}
@@ -61,6 +62,19 @@ pub record GivesNothing (opened : Opened) : Type 0 where
   pub snapshot : opened.snapshot ≡ []
   pub entries : opened.entries ≡ []
   pub journal : opened.journal ≡ record { current = None; last = 0; spare = 0 }
+
+-- the journal stands in this file, behind the entries that are given out
+pub record OpensJournal (file : ℕ) (opened : Opened) : Type 0 where
+  pub current : CurrentFile
+  pub is : opened.journal.current ≡ Some current
+  pub this : current.file ≡ file
+  pub last : opened.journal.last
+      ≡ last_of current.form opened.number (payloads_of opened.entries)
+
+-- what is known of what is given out, also of a disk that tells nothing
+abbrev pub GivesJournal : Opened → Option ℕ → Type 0
+GivesJournal opened None = GivesNothing opened
+GivesJournal opened (Some file) = OpensJournal file opened
 
 -- what is given out of a file, or where none is open
 abbrev pub Gives : Image → Opened → Option ℕ → Type 0

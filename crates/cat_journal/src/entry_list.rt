@@ -5,7 +5,7 @@ ghost use Rattle.room_base.specs.Outside.{Told};
 ghost use Rattle.room_disk.specs.Disk.{Quiet};
 ghost use Rattle.cat_journal.specs.declared.reading.ReadFault.TheVariants.{Memory};
 ghost use Rattle.cat_journal.specs.Reads.{ReadCause, ahead, IsOf};
-ghost use Rattle.cat_journal.specs.Entries.{with_entry, FindsEntries, HasRange};
+ghost use Rattle.cat_journal.specs.Entries.{with_entry, FindsEntries, IsCounted, HasRange};
 
 use crate::entries::{EntryRead, read_entry};
 use crate::entry::{FRAME_SIZE, is_part};
@@ -66,6 +66,7 @@ pub(crate) fn read_entries<D: Store>(
 ) -> Result<EntryList, ReadFault>
     requires { 64 + head.now.size ≤ head.now.end }
     ensures range { IfOk result (HasRange head.now.end) }
+    ensures counted { IfOk result (IsCounted head.now.form head.now.number) }
     ensures cause { ReadCause pieces.old.file (D.view store.old) (D.view store.new) result }
     ensures tells { (D.view store.new).tells ≡ (D.view store.old).tells }
     ensures quiet { Told (D.view store.old).tells (Quiet (D.view store.old) (D.view store.new)) }

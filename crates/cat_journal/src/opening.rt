@@ -5,9 +5,10 @@ ghost use Rattle.std.specs.Prelude.{IfOk, IfErr};
 ghost use Rattle.room_base.specs.Outside.{Told};
 ghost use Rattle.room_disk.specs.Disk.{Quiet, Settled};
 ghost use Rattle.cat_journal.specs.Meaning.{HasFront};
+ghost use Rattle.cat_journal.specs.Entries.{IsCounted};
 ghost use Rattle.cat_journal.specs.Heads.{FindsHead, IsFileHead, HasFileHead, head_of};
 ghost use Rattle.cat_journal.specs.Opening.{OpenCause, Opens, FindsFront, ChecksFront, OpensFile};
-ghost use Rattle.cat_journal.specs.Opening.{OpensAlone, GivesNothing};
+ghost use Rattle.cat_journal.specs.Opening.{OpensAlone, GivesNothing, GivesJournal};
 ghost use Rattle.cat_journal.specs.declared.opening.OpenFault.TheVariants as faults;
 ghost use Rattle.cat_journal.specs.declared.front.FrontRead.TheVariants as read;
 
@@ -62,6 +63,7 @@ impl Journal {
     /// each open file its snapshot, once, and the entries of the current one. It holds no more than
     /// the current file and one piece.
     pub fn open<D: Store>(alloc: Global, store: &mut D) -> Result<Opened, OpenFault>
+        ensures journal { IfOk result (λ opened. GivesJournal opened opened.file) }
         ensures cause { OpenCause (D.view store.old) (D.view store.new) result }
         ensures tells { (D.view store.new).tells ≡ (D.view store.old).tells }
         ensures quiet { Told (D.view store.old).tells
@@ -102,6 +104,7 @@ fn open_files<D: Store>(
 ) -> Result<Opened, OpenFault>
     requires first { HasFileHead first.now }
     requires second { HasFileHead second.now }
+    ensures journal { IfOk result (λ opened. GivesJournal opened opened.file) }
     ensures cause { OpenCause (D.view store.old) (D.view store.new) result }
     ensures tells { (D.view store.new).tells ≡ (D.view store.old).tells }
     ensures quiet { Told (D.view store.old).tells (Quiet (D.view store.old) (D.view store.new)) }
@@ -135,6 +138,7 @@ fn open_greater<D: Store>(
 ) -> Result<Opened, OpenFault>
     requires first { IsFileHead first.now }
     requires second { IsFileHead second.now }
+    ensures journal { IfOk result (λ opened. GivesJournal opened opened.file) }
     ensures cause { OpenCause (D.view store.old) (D.view store.new) result }
     ensures tells { (D.view store.new).tells ≡ (D.view store.old).tells }
     ensures quiet { Told (D.view store.old).tells (Quiet (D.view store.old) (D.view store.new)) }
@@ -163,6 +167,7 @@ fn open_alone<D: Store>(
 ) -> Result<Opened, OpenFault>
     requires file { file ≤ 1 }
     requires head { IsFileHead head.now }
+    ensures journal { IfOk result (λ opened. GivesJournal opened opened.file) }
     ensures cause { OpenCause (D.view store.old) (D.view store.new) result }
     ensures tells { (D.view store.new).tells ≡ (D.view store.old).tells }
     ensures quiet { Told (D.view store.old).tells (Quiet (D.view store.old) (D.view store.new)) }
@@ -186,6 +191,7 @@ fn open_file<D: Store>(
     requires file { file ≤ 1 }
     requires head { IsFileHead head.now }
     requires snapshot { length snapshot ≡ head.now.size }
+    ensures journal { IfOk result (λ opened. GivesJournal opened opened.file) }
     ensures cause { OpenCause (D.view store.old) (D.view store.new) result }
     ensures tells { (D.view store.new).tells ≡ (D.view store.old).tells }
     ensures quiet { Told (D.view store.old).tells (Quiet (D.view store.old) (D.view store.new)) }
@@ -216,7 +222,8 @@ fn give_out(
     requires file { file ≤ 1 }
     requires head { IsFileHead head.now }
     requires gate { list.gate + 1 < 2 ^ 64 }
-    ensures { result ≡ record {
+    requires counted { IsCounted head.now.form head.now.number list }
+    ensures exact { result ≡ record {
       journal = record {
         current = Some (record {
           file = file;
@@ -232,6 +239,7 @@ fn give_out(
       snapshot = snapshot;
       entries = list.entries;
     } }
+    ensures journal { GivesJournal result (Some file) }
 {
     let current = CurrentFile {
         file,

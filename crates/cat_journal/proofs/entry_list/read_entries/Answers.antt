@@ -3,7 +3,7 @@ use Rattle.std.specs.Prelude.{IsTrue}
 use Rattle.room_disk.proofs.Runs.{quiet_then}
 use Rattle.cat_journal.specs.Reads.{ahead}
 use Rattle.cat_journal.specs.declared.entry_list.EntryList.{EntryList}
-use Rattle.cat_journal.proofs.Listing.{one_more, room_ahead, finds_at}
+use Rattle.cat_journal.proofs.Listing.{one_more, room_ahead, finds_at, counted_more}
 use Rattle.cat_journal.proofs.entry_list.read_entries.Goals as goal
 
 pub loop-list-preserved : goal.loop-list-preserved
@@ -22,6 +22,7 @@ loop-list-preserved g c =
     record {
       within = omega (arith, ap (λ (l : EntryList). l.gate) added, fits.1, held.within);
       unclosed = ap (λ (l : EntryList). l.closed) added ∙ held.unclosed;
+      counted = counted_more c.args.head.now.form c.args.head.now.number list c.add.new.self payload held.counted added;
       file = made.file ∙ held.file;
       end = made.end ∙ held.end;
       later = λ other. omega (arith, held.later other, made.cause.later other);

@@ -2,6 +2,7 @@ use Rattle.std.proofs.Common.{◌≡◌, ◌+◌, ◌-◌, ◌≤◌, ℕ, false
 use Rattle.room_base.specs.Outside.{Told}
 use Rattle.room_disk.specs.Disk.{Quiet}
 use Rattle.cat_journal.specs.Reads.{ahead, IsOf}
+use Rattle.cat_journal.specs.Entries.{IsCounted}
 use Rattle.cat_journal.proofs.Listing.{EntriesSoFar}
 use Rattle.cat_journal.proofs.entry_list.read_entries.Given as goal
 
@@ -10,6 +11,7 @@ abbrev pub invariant-loop-list : goal.invariant-loop-list
 invariant-loop-list g l = record {
   within : l.list.gate ≤ l.head.end;
   unclosed : l.list.closed ≡ false;
+  counted : IsCounted l.head.form l.head.number l.list;
   file : l.pieces.file ≡ l.fn.pieces.file;
   end : l.pieces.end ≡ l.fn.pieces.end;
   later : (other : ℕ) → (g.D.Store.view l.fn.store).faults other ≤ (g.D.Store.view l.store).faults other;

@@ -40,4 +40,4 @@ returns-clause-opens g c = λ told has ends.
     let found = subst P of_file (c.in_ok-list.ensures.found told) (ap (λ (p : PiecesView). p.end) begins ∙ ends) left in
     let Q : List ℕ → Type 0 = λ t. FindsEntries head.form head.number (64 + head.size) t c.in_ok-list.list in
     let shut_end : c.in_ok-list.list.closed ≡ true = not_false c.in_ok-list.list.closed c.if-not-list.false in
-    opens_held c.args.file bytes head c.args.snapshot c.in_ok-list.list c.give_out.result has c.requires.snapshot (subst Q goes found) shut_end c.give_out.ensures
+    opens_held c.args.file bytes head c.args.snapshot c.in_ok-list.list c.give_out.result has c.requires.snapshot (subst Q goes found) shut_end c.give_out.ensures.exact
