@@ -23,3 +23,6 @@ pub use laws::{
     every_meaning, one_meaning,
 };
 pub use opening::{OpenFault, Opened};
+
+#[cfg(test)]
+mod tests;
