@@ -1,6 +1,6 @@
 -- What a journal in memory knows of its files, and what its calls write.
 use Rattle.std.specs.Prelude.{◌≡◌, ◌≢◌, ◌⊎◌, ℕ, ◌+◌, ◌-◌, ◌<◌, ◌≤◌, ◌^◌, List, [], ◌∷◌, ◌++◌}
-use Rattle.std.specs.Prelude.{Option, Some, None, Result, OnOk, OnErr, slice_index, IsTrue, length}
+use Rattle.std.specs.Prelude.{Option, Some, None, Result, OnOk, OnErr, slice_index, IsSome, IsTrue, length}
 use Rattle.room_base.specs.Faults.{Rose}
 use Rattle.room_base.specs.Outside.{Told}
 use Rattle.room_disk.specs.Disk.{DiskView, Image, Leaves, OthersThan, OthersLeft, Settled}
@@ -29,7 +29,7 @@ IsKnown None = Unit {0}
 IsKnown (Some current) = IsFile current
 
 abbrev pub IsOpen : JournalView → Type 0
-IsOpen journal = (current : CurrentFile) × (journal.current ≡ Some current)
+IsOpen journal = IsSome journal.current
 
 -- the current file; where none is open, the one that is written first
 abbrev pub file_of : Option CurrentFile → ℕ
