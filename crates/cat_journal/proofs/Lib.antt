@@ -13,3 +13,4 @@ pub mod HeadsRead
 pub mod Opens
 pub mod Standing
 pub mod Turning
+pub mod Images

@@ -7,3 +7,4 @@ pub mod Reads
 pub mod Entries
 pub mod Heads
 pub mod Opening
+pub mod Images
