@@ -1,15 +1,15 @@
 -- The images of a call that writes one file of a journal.
-use Rattle.std.proofs.Common.{◌≡◌, ◌≢◌, ◌⊎◌, ℕ, ◌-◌, ◌≤◌, List, [], length, refl, sym, subst, ◌∙◌, arith, inl, inr}
-use Rattle.std.specs.Prelude.{IsTrue, Result, Ok, Option, Some, None}
+use Rattle.std.proofs.Common.{◌≡◌, ◌≢◌, ◌⊎◌, ℕ, ◌+◌, ◌-◌, ◌≤◌, Bool, true, false, if◌then◌else◌, List, [], length, refl, sym, subst, ◌∙◌, arith, inl, inr}
+use Rattle.std.specs.Prelude.{IsTrue, Result, Ok, Err, OnOk, Option, Some, None}
 use Rattle.std.proofs.lemmas.Bool.{cases_eq}
 use Rattle.room_disk.specs.Disk.{DiskView, Image, Leaves, OnFile, Settled}
 use Rattle.room_disk.specs.Crash.{IsAnew, AnewTorn}
 use Rattle.room_disk.specs.Writing.{ComesOf, WritesFile}
 use Rattle.room_disk.proofs.Runs.{leaves_weaker, settled_others}
 use Rattle.room_disk.proofs.Writing.{Step, settled_comes}
-use Rattle.cat_journal.specs.Contents.{Contents, contents_of, with_payload, IsFront}
+use Rattle.cat_journal.specs.Contents.{Contents, contents_of, with_payload, is_part, number_after, IsFront}
 use Rattle.cat_journal.specs.Meaning.{Means, Stands}
-use Rattle.cat_journal.specs.Journal.{JournalView, IsJournalFile, KnowsContents, StandOn, KnowsFiles, file_of, behind_entry, behind_payload, AddsEntry, MayAddEntry, next_file, next_generation, next_head, new_text, turned_over, IsShut, first_head, MakesAnew, in_new_file}
+use Rattle.cat_journal.specs.Journal.{JournalView, IsJournalFile, KnowsContents, StandOn, KnowsFiles, file_of, form_of, behind_entry, behind_payload, AddsEntry, MayAddEntry, next_file, next_generation, next_head, new_text, turned_over, IsShut, first_head, MakesAnew, in_new_file}
 use Rattle.cat_journal.specs.Images.{HasContents, IsJournal, IsEntryImage, IsTurnedImage}
 use Rattle.cat_journal.specs.declared.current.CurrentFile.{CurrentFile}
 use Rattle.cat_journal.proofs.Standing.{may_stand_with, stands_with, current_holds, file_is, knows_behind}
@@ -140,3 +140,64 @@ turned_stands before now journal snapshot told is allowed does =
       first = settled.0;
       second = settled.1;
     }
+
+-- ---- the calls
+
+if_not : (b : Bool) (x y : ℕ) → ¬ IsTrue b → y ≡ (if b then x else y)
+if_not true x y not_so = absurd (not_so refl)
+if_not false x y not_so = refl
+
+if_is : (b : Bool) (x y : ℕ) → IsTrue b → x ≡ (if b then x else y)
+if_is true x y so = refl
+if_is false x y so = absurd (cc so)
+
+pub number_change : (form last : ℕ) (payload : List ℕ) → ¬ IsTrue (is_part form payload) → last + 1 ≡ number_after form last payload
+number_change form last payload change = if_not (is_part form payload) last (last + 1) change
+
+pub number_part : (form last : ℕ) (payload : List ℕ) → IsTrue (is_part form payload) → last ≡ number_after form last payload
+number_part form last payload part = if_is (is_part form payload) last (last + 1) part
+
+-- the journal as a call leaves it
+pub has_as : (journal late : JournalView) (payload : List ℕ) (number : ℕ) (contents : Contents) (disk : DiskView)
+    → late ≡ record journal { current = behind_entry journal.current (length payload); last = number }
+    → number ≡ number_after (form_of journal.current) journal.last payload → HasContents (behind_payload journal payload) contents disk
+    → HasContents late contents disk
+has_as journal late payload number contents disk is counted has =
+    let P : ℕ → Type 0 = λ n. HasContents (record journal { current = behind_entry journal.current (length payload); last = n }) contents disk in
+    let Q : JournalView → Type 0 = λ v. HasContents v contents disk in
+    subst Q (sym is) (subst P (sym counted) has)
+
+-- a fresh journal
+pub fresh_stands : {T E : Type 0} {value : T} (before now : DiskView) (number : ℕ) (snapshot : List ℕ) → IsTrue before.tells → IsFront (first_head number) snapshot
+    → MakesAnew {E = E} (new_text (first_head number) snapshot) before now (Ok value)
+    → HasContents (in_new_file 0 1 (record { current = None; last = number; spare = 0 }) (length snapshot)) (contents_of (first_head number) snapshot []) now
+fresh_stands before now number snapshot told allowed makes =
+    let whole = makes.whole told in
+    let settled = makes.settled told in
+    record {
+      knows = knows_new 0 1 number snapshot;
+      means = first_is_new now.reads (first_head number) snapshot allowed whole.0 whole.1;
+      first = settled.0;
+      second = settled.1;
+    }
+
+-- ---- whatever the call answers
+
+pub entry_stands_on : {T E : Type 0} (answer : Result T E) (before now : DiskView) (journal late : JournalView) (contents : Contents) (payload : List ℕ) (number : ℕ)
+    → IsTrue before.tells → HasContents journal contents before
+    → OnOk answer (late ≡ record journal { current = behind_entry journal.current (length payload); last = number })
+    → number ≡ number_after (form_of journal.current) journal.last payload
+    → WritesFile (file_of journal.current) (AddsEntry journal payload) (MayAddEntry journal payload) before now answer
+    → OnOk answer (HasContents late (with_payload contents payload) now)
+entry_stands_on (Ok value) before now journal late contents payload number told has moved counted does =
+    has_as journal late payload number (with_payload contents payload) now moved counted (entry_stands before now journal contents payload told has does)
+entry_stands_on (Err fault) before now journal late contents payload number told has moved counted does = tt
+
+pub turned_stands_on : {T E : Type 0} (answer : Result T E) (before now : DiskView) (journal late : JournalView) (snapshot : List ℕ)
+    → IsTrue before.tells → IsJournal journal before → IsFront (next_head journal) snapshot → OnOk answer (late ≡ turned_over journal (length snapshot))
+    → WritesFile (next_file journal.current) (IsAnew 0x4A (new_text (next_head journal) snapshot)) (AnewTorn 0x4A (new_text (next_head journal) snapshot)) before now answer
+    → OnOk answer (HasContents late (contents_of (next_head journal) snapshot []) now)
+turned_stands_on (Ok value) before now journal late snapshot told is allowed moved does =
+    let P : JournalView → Type 0 = λ v. HasContents v (contents_of (next_head journal) snapshot []) now in
+    subst P (sym moved) (turned_stands before now journal snapshot told is allowed does)
+turned_stands_on (Err fault) before now journal late snapshot told is allowed moved does = tt

@@ -2,6 +2,8 @@
 
 ghost use Rattle.std.specs.Prelude.{◌≡◌, ◌≤◌, ◌<◌, ◌+◌, ◌-◌, ◌^◌, [], ◌∷◌, ◌++◌, max, length, None};
 ghost use Rattle.std.specs.Prelude.{IfOk, IsOk, OnOk, OnErr, MatchOption};
+ghost use Rattle.room_base.specs.Outside.{Told};
+ghost use Rattle.room_disk.specs.Disk.{Leaves};
 ghost use Rattle.room_disk.specs.Crash.{Overlays, GatedTorn, IsAnew, AnewTorn};
 ghost use Rattle.room_disk.specs.Writing.{WritesFile};
 ghost use Rattle.cat_journal.specs.Journal.{IsKnown, IsOpen, IsPart, file_of, form_of};
@@ -9,7 +11,8 @@ ghost use Rattle.cat_journal.specs.Journal.{behind_entry, AddsEntry, MayAddEntry
 ghost use Rattle.cat_journal.specs.Journal.{next_file, next_generation, next_head};
 ghost use Rattle.cat_journal.specs.Journal.{new_text, in_new_file, turned_over, new_head};
 ghost use Rattle.cat_journal.specs.Journal.{first_head, MakesAnew};
-ghost use Rattle.cat_journal.specs.Contents.{IsFront};
+ghost use Rattle.cat_journal.specs.Contents.{Contents, contents_of, with_payload, IsFront};
+ghost use Rattle.cat_journal.specs.Images.{HasContents, IsJournal, IsEntryImage, IsTurnedImage};
 ghost use Rattle.cat_journal.specs.Layout.{entry_text};
 
 use crate::current::CurrentFile;
@@ -97,10 +100,17 @@ impl Journal {
         ensures kept { OnErr result (self.new ≡ self.old) }
         ensures writes { WritesFile (file_of self.old.current) (AddsEntry self.old bytes.now)
             (MayAddEntry self.old bytes.now) (D.view store.old) (D.view store.new) result }
+        ensures images { Told (D.view store.old).tells ((contents : Contents)
+            → HasContents self.old contents (D.view store.old)
+            → Leaves (D.view store.old) (D.view store.new)
+            (IsEntryImage self.old contents bytes.now (D.view store.old))) }
+        ensures stands { Told (D.view store.old).tells ((contents : Contents)
+            → HasContents self.old contents (D.view store.old) → OnOk result
+            (HasContents self.new (with_payload contents bytes.now) (D.view store.new))) }
     {
-        self.add_entry(store, bytes)?;
-        self.last += 1;
-        Ok(self.last)
+        let number = self.last + 1;
+        self.add_entry(store, bytes, number)?;
+        Ok(number)
     }
 
     /// Writes a part, which has the number of the next change. After `Failed` the journal is to be
@@ -117,8 +127,16 @@ impl Journal {
         ensures kept { OnErr result (self.new ≡ self.old) }
         ensures writes { WritesFile (file_of self.old.current) (AddsEntry self.old bytes.now)
             (MayAddEntry self.old bytes.now) (D.view store.old) (D.view store.new) result }
+        ensures images { Told (D.view store.old).tells ((contents : Contents)
+            → HasContents self.old contents (D.view store.old)
+            → Leaves (D.view store.old) (D.view store.new)
+            (IsEntryImage self.old contents bytes.now (D.view store.old))) }
+        ensures stands { Told (D.view store.old).tells ((contents : Contents)
+            → HasContents self.old contents (D.view store.old) → OnOk result
+            (HasContents self.new (with_payload contents bytes.now) (D.view store.new))) }
     {
-        self.add_entry(store, bytes)
+        let last = self.last;
+        self.add_entry(store, bytes, last)
     }
 
     /// Writes a snapshot of what the journal has come to into the other file, with the next
@@ -126,6 +144,51 @@ impl Journal {
     /// 1. No entry stands behind it yet. Behind the last generation nothing is written. After
     /// `Failed` the journal is to be opened again.
     pub fn turn_over<D: Store>(&mut self, store: &mut D, snapshot: &[u8]) -> Result<(), Failed>
+        ensures last { IsLast self.old
+            → IsOk result × (self.new ≡ self.old) × (store.new ≡ store.old) }
+        ensures moved { ¬ IsLast self.old → OnOk result
+            (self.new ≡ turned_over self.old (length snapshot.now)) }
+        ensures kept { OnErr result (self.new ≡ self.old) }
+        ensures allowed { ¬ IsLast self.old → IsFront (next_head self.old) snapshot.now }
+        ensures writes { ¬ IsLast self.old → WritesFile (next_file self.old.current)
+            (IsAnew 0x4A (new_text (next_head self.old) snapshot.now))
+            (AnewTorn 0x4A (new_text (next_head self.old) snapshot.now))
+            (D.view store.old) (D.view store.new) result }
+        ensures images { Told (D.view store.old).tells (¬ IsLast self.old
+            → IsJournal self.old (D.view store.old)
+            → Leaves (D.view store.old) (D.view store.new)
+            (IsTurnedImage self.old snapshot.now (D.view store.old))) }
+        ensures stands { Told (D.view store.old).tells (¬ IsLast self.old
+            → IsJournal self.old (D.view store.old) → OnOk result (HasContents self.new
+            (contents_of (next_head self.old) snapshot.now []) (D.view store.new))) }
+    {
+        self.write_next(store, snapshot)
+    }
+
+    /// Makes a journal of a snapshot alone, whatever the two files hold: closes both, and then
+    /// writes generation 1 into file 0. `number` is that of the last change in the snapshot.
+    pub fn fresh<D: Store>(
+        alloc: Global,
+        store: &mut D,
+        number: u64,
+        snapshot: &[u8],
+    ) -> Result<Journal, Failed>
+        ensures journal { IfOk result (λ journal. journal ≡ in_new_file 0 1
+            (record { current = None; last = number; spare = 0 }) (length snapshot.now)) }
+        ensures allowed { IsFront (first_head number) snapshot.now }
+        ensures makes { MakesAnew (new_text (first_head number) snapshot.now)
+            (D.view store.old) (D.view store.new) result }
+        ensures stands { Told (D.view store.old).tells (IfOk result (λ journal. HasContents journal
+            (contents_of (first_head number) snapshot.now []) (D.view store.new))) }
+    {
+        write_synced(store, 0, 0, &[0])?;
+        write_synced(store, 1, 0, &[0])?;
+        let current = write_file(store, 0, 1, number, snapshot)?;
+        Ok(Journal::at(alloc, Some(current), number))
+    }
+
+    // The same, told of the one file that is written.
+    fn write_next<D: Store>(&mut self, store: &mut D, snapshot: &[u8]) -> Result<(), Failed>
         ensures last { IsLast self.old
             → IsOk result × (self.new ≡ self.old) × (store.new ≡ store.old) }
         ensures moved { ¬ IsLast self.old → OnOk result
@@ -145,34 +208,21 @@ impl Journal {
         Ok(())
     }
 
-    /// Makes a journal of a snapshot alone, whatever the two files hold: closes both, and then
-    /// writes generation 1 into file 0. `number` is that of the last change in the snapshot.
-    pub fn fresh<D: Store>(
-        alloc: Global,
+    // Writes an entry with the next number, and moves the gate behind it, where the last change has
+    // the number `last`.
+    fn add_entry<D: Store>(
+        &mut self,
         store: &mut D,
-        number: u64,
-        snapshot: &[u8],
-    ) -> Result<Journal, Failed>
-        ensures journal { IfOk result (λ journal. journal ≡ in_new_file 0 1
-            (record { current = None; last = number; spare = 0 }) (length snapshot.now)) }
-        ensures allowed { IsFront (first_head number) snapshot.now }
-        ensures makes { MakesAnew (new_text (first_head number) snapshot.now)
-            (D.view store.old) (D.view store.new) result }
-    {
-        write_synced(store, 0, 0, &[0])?;
-        write_synced(store, 1, 0, &[0])?;
-        let current = write_file(store, 0, 1, number, snapshot)?;
-        Ok(Journal::at(alloc, Some(current), number))
-    }
-
-    // Writes an entry with the next number, and moves the gate behind it.
-    fn add_entry<D: Store>(&mut self, store: &mut D, bytes: &[u8]) -> Result<(), Failed>
+        bytes: &[u8],
+        last: u64,
+    ) -> Result<(), Failed>
         requires open { IsOpen self.old }
         requires spare { length bytes.now ≤ self.old.spare }
         requires short { length bytes.now < 2 ^ 32 }
-        requires last { self.old.last + 1 < 2 ^ 64 }
+        requires number { self.old.last + 1 < 2 ^ 64 }
         ensures moved { OnOk result (self.new ≡ record self.old {
           current = behind_entry self.old.current (length bytes.now);
+          last = last;
         }) }
         ensures kept { OnErr result (self.new ≡ self.old) }
         ensures writes { WritesFile (file_of self.old.current) (AddsEntry self.old bytes.now)
@@ -183,6 +233,7 @@ impl Journal {
         };
         let gate = write_in_room(store, current, self.last + 1, bytes, &mut self.text)?;
         self.current = Some(CurrentFile { gate, ..current });
+        self.last = last;
         Ok(())
     }
 }

@@ -13,11 +13,11 @@ returns-in_err-gate-clause-writes g c =
     writes_failed (AddsEntry journal payload) (MayAddEntry journal payload) (err_from_is_err_and c.from_residual.result c.from_residual.ensures.1).1
     (writes_change (writes_entry journal c.in-Some.current c.self.inside.last payload
     (ap (λ (v : JournalView). v.current) (sym c.self.view_is) ∙ c.in-Some.is) (ap (λ (v : JournalView). v.last) (sym c.self.view_is))
-    (record { counted = c.requires.last; short = c.requires.short }) c.in_err-gate.ensures.writes))
+    (record { counted = c.requires.number; short = c.requires.short }) c.in_err-gate.ensures.writes))
     (λ old new torn. torn)
 
 pub returns-clause-writes : goal.returns-clause-writes
 returns-clause-writes g c =
     writes_value _ (writes_entry c.args.self.now c.in-Some.current c.self.inside.last c.args.bytes.now
     (ap (λ (v : JournalView). v.current) (sym c.self.view_is) ∙ c.in-Some.is) (ap (λ (v : JournalView). v.last) (sym c.self.view_is))
-    (record { counted = c.requires.last; short = c.requires.short }) c.in_ok-gate.ensures.writes)
+    (record { counted = c.requires.number; short = c.requires.short }) c.in_ok-gate.ensures.writes)
