@@ -1,0 +1,16 @@
+pub mod Spelling
+pub mod Writing
+pub mod Adding
+pub mod Anew
+pub mod Spelled
+pub mod OneMeaning
+pub mod EveryMeaning
+pub mod Handing
+pub mod Finding
+pub mod Listing
+pub mod Fronts
+pub mod HeadsRead
+pub mod Opens
+pub mod Standing
+pub mod Turning
+pub mod Images
