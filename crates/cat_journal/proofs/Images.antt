@@ -1,5 +1,5 @@
 -- The images of a call that writes one file of a journal.
-use Rattle.std.proofs.Common.{◌≡◌, ◌≢◌, ◌⊎◌, ℕ, ◌+◌, ◌-◌, ◌≤◌, Bool, true, false, if◌then◌else◌, List, [], length, refl, sym, subst, ◌∙◌, arith, inl, inr}
+use Rattle.std.proofs.Common.{◌≡◌, ◌≢◌, ℕ, ◌+◌, ◌-◌, ◌≤◌, Bool, true, false, if◌then◌else◌, List, [], length, refl, sym, subst, arith, inl, inr}
 use Rattle.std.specs.Prelude.{IsTrue, Result, Ok, Err, OnOk, Option, Some, None}
 use Rattle.std.proofs.lemmas.Bool.{cases_eq}
 use Rattle.room_disk.specs.Disk.{DiskView, Image, Leaves, OnFile, Settled}
@@ -9,7 +9,7 @@ use Rattle.room_disk.proofs.Runs.{leaves_weaker, settled_others}
 use Rattle.room_disk.proofs.Writing.{Step, settled_comes}
 use Rattle.cat_journal.specs.Contents.{Contents, contents_of, with_payload, is_part, number_after, IsFront}
 use Rattle.cat_journal.specs.Meaning.{Means, Stands}
-use Rattle.cat_journal.specs.Journal.{JournalView, IsJournalFile, KnowsContents, StandOn, KnowsFiles, file_of, form_of, behind_entry, behind_payload, AddsEntry, MayAddEntry, next_file, next_generation, next_head, new_text, turned_over, IsShut, first_head, MakesAnew, in_new_file}
+use Rattle.cat_journal.specs.Journal.{JournalView, IsJournalFile, file_of, form_of, behind_entry, behind_payload, AddsEntry, MayAddEntry, next_file, next_generation, next_head, new_text, turned_over, first_head, MakesAnew, in_new_file}
 use Rattle.cat_journal.specs.Images.{HasContents, IsJournal, IsEntryImage, IsTurnedImage}
 use Rattle.cat_journal.specs.declared.current.CurrentFile.{CurrentFile}
 use Rattle.cat_journal.proofs.Standing.{may_stand_with, stands_with, current_holds, file_is, knows_behind}
@@ -59,8 +59,10 @@ settled_now file Whole Torn before now le told first second does which one = eli
 
 settled_both : {T E : Type 0} {value : T} (file : ℕ) (Whole Torn : Step) (before now : DiskView) → file ≤ 1 → IsTrue before.tells → Settled before 0 → Settled before 1
     → WritesFile {E = E} file Whole Torn before now (Ok value) → Settled now 0 × Settled now 1
-settled_both file Whole Torn before now le told first second does = (settled_now file Whole Torn before now le told first second does 0 (omega arith),
-  settled_now file Whole Torn before now le told first second does 1 (omega arith))
+settled_both file Whole Torn before now le told first second does = (
+  settled_now file Whole Torn before now le told first second does 0 (omega arith),
+  settled_now file Whole Torn before now le told first second does 1 (omega arith),
+)
 
 -- the file stays the same behind one entry more
 file_behind : (place : Option CurrentFile) (payload : List ℕ) → file_of (behind_entry place (length payload)) ≡ file_of place

@@ -1,11 +1,11 @@
 -- A journal that is turned over, and one that is made anew.
-use Rattle.std.proofs.Common.{◌≡◌, ◌≢◌, ◌⊎◌, ℕ, ◌+◌, ◌-◌, ◌<◌, ◌≤◌, List, [], ◌∷◌, ◌++◌, length, get_or, refl, sym, ap, subst, ◌∙◌, arith, inl, inr}
+use Rattle.std.proofs.Common.{◌≡◌, ◌⊎◌, ℕ, ◌+◌, ◌-◌, ◌<◌, ◌≤◌, List, [], ◌∷◌, length, refl, sym, ap, subst, arith, inl, inr}
 use Rattle.std.specs.Prelude.{Option, Some, None}
 use Rattle.room_disk.specs.Disk.{Image}
 use Rattle.room_disk.specs.Crash.{AnewTorn}
 use Rattle.cat_journal.specs.Layout.{Head}
 use Rattle.cat_journal.specs.Contents.{Contents, contents_of, IsFront, Holds}
-use Rattle.cat_journal.specs.Meaning.{Front, Shut, Open, Bad, HasFront, Begins, Meaning, Unopened, Damaged, Stands, CurrentMeans, FrontsMean, Means}
+use Rattle.cat_journal.specs.Meaning.{Front, Shut, Open, Bad, HasFront, Begins, Meaning, Unopened, Stands, CurrentMeans, FrontsMean, Means}
 use Rattle.cat_journal.specs.Journal.{JournalView, KnowsFiles, next_head, StandOn, EndAt, next_file, next_generation, new_head, new_text, IsShut}
 use Rattle.cat_journal.specs.declared.current.CurrentFile.{CurrentFile}
 use Rattle.cat_journal.proofs.Opens.{none_open, first_alone, second_alone, second_greater, first_greater}

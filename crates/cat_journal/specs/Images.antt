@@ -7,7 +7,8 @@ use Rattle.cat_journal.specs.Journal.{JournalView, KnowsContents, KnowsFiles, fi
 use Rattle.cat_journal.specs.Journal.{next_head, IsJournalFile}
 
 -- the two files are the journal with these contents, and nothing is pending on them
-pub record HasContents (journal : JournalView) (contents : Contents) (disk : DiskView) : Type 0 where
+pub record HasContents (journal : JournalView) (contents : Contents)
+    (disk : DiskView) : Type 0 where
   pub knows : KnowsContents journal contents
   pub means : Means disk.reads (Stands (file_of journal.current) contents)
   pub first : Settled disk 0

@@ -1,6 +1,7 @@
 -- What a journal in memory knows of its files, and what its calls write.
 use Rattle.std.specs.Prelude.{◌≡◌, ◌≢◌, ◌⊎◌, ℕ, ◌+◌, ◌-◌, ◌<◌, ◌≤◌, ◌^◌, List, [], ◌∷◌, ◌++◌}
-use Rattle.std.specs.Prelude.{Option, Some, None, Result, OnOk, OnErr, slice_index, IsSome, IsTrue, length}
+use Rattle.std.specs.Prelude.{Option, Some, None, Result, OnOk, OnErr, slice_index, IsSome, IsTrue}
+use Rattle.std.specs.Prelude.{length}
 use Rattle.room_base.specs.Faults.{Rose}
 use Rattle.room_base.specs.Outside.{Told}
 use Rattle.room_disk.specs.Disk.{DiskView, Image, Leaves, OthersThan, OthersLeft, Settled}

@@ -210,12 +210,7 @@ impl Journal {
 
     // Writes an entry with the next number, and moves the gate behind it, where the last change has
     // the number `last`.
-    fn add_entry<D: Store>(
-        &mut self,
-        store: &mut D,
-        bytes: &[u8],
-        last: u64,
-    ) -> Result<(), Failed>
+    fn add_entry<D: Store>(&mut self, store: &mut D, bytes: &[u8], last: u64) -> Result<(), Failed>
         requires open { IsOpen self.old }
         requires spare { length bytes.now ≤ self.old.spare }
         requires short { length bytes.now < 2 ^ 32 }

@@ -23,6 +23,7 @@ const LATER: [u8; 2] = [4, 5];
 
 /// Where its first entry stands, and the gate behind it.
 const FIRST: u64 = 67;
+
 const NEXT: u64 = 121;
 
 /// The device calls that write it: both files closed, file 0 written, and one entry.
@@ -40,20 +41,26 @@ const WRITTEN: [u8; 122] = [
 /// A file of form 1, with generation 9, number 5, and two changes.
 const FIRST_FORM: [u8; 166] = [
     74, 1, 0, 0, 0, 0, 0, 0, 0, 0, 0, 0, 0, 0, 0, 9, 0, 0, 0, 0, 0, 0, 0, 5, 0, 0, 0, 0, 0, 0, 0,
-    2, 70, 157, 239, 99, 98, 57, 251, 229, 182, 56, 132, 43, 94, 146, 255, 216, 154, 246, 199,
-    155, 172, 238, 35, 177, 192, 128, 235, 110, 23, 225, 6, 157, 7, 7, 69, 0, 0, 0, 0, 0, 0, 0, 6,
-    0, 0, 0, 9, 0, 0, 0, 0, 0, 0, 0, 1, 14, 203, 182, 53, 188, 240, 195, 192, 233, 125, 124, 171,
-    120, 7, 178, 138, 194, 76, 180, 110, 133, 76, 58, 41, 33, 192, 112, 88, 42, 185, 153, 115, 9,
-    69, 0, 0, 0, 0, 0, 0, 0, 7, 0, 0, 0, 0, 62, 232, 202, 241, 208, 203, 248, 107, 183, 93, 117,
-    120, 214, 105, 106, 20, 120, 69, 109, 25, 126, 200, 38, 110, 116, 101, 244, 144, 170, 137,
-    247, 213, 0,
+    2, 70, 157, 239, 99, 98, 57, 251, 229, 182, 56, 132, 43, 94, 146, 255, 216, 154, 246, 199, 155,
+    172, 238, 35, 177, 192, 128, 235, 110, 23, 225, 6, 157, 7, 7, 69, 0, 0, 0, 0, 0, 0, 0, 6, 0, 0,
+    0, 9, 0, 0, 0, 0, 0, 0, 0, 1, 14, 203, 182, 53, 188, 240, 195, 192, 233, 125, 124, 171, 120, 7,
+    178, 138, 194, 76, 180, 110, 133, 76, 58, 41, 33, 192, 112, 88, 42, 185, 153, 115, 9, 69, 0, 0,
+    0, 0, 0, 0, 0, 7, 0, 0, 0, 0, 62, 232, 202, 241, 208, 203, 248, 107, 183, 93, 117, 120, 214,
+    105, 106, 20, 120, 69, 109, 25, 126, 200, 38, 110, 116, 101, 244, 144, 170, 137, 247, 213, 0,
 ];
 
 /// What is found: the file, the number, the snapshot, and of each entry number, place and bytes.
 type Found<'a> = (Option<u32>, u64, &'a [u8], &'a [(u64, u64, &'a [u8])]);
 
 const OLD: Found<'static> = (Some(0), 7, &SNAPSHOT, &[(8, FIRST, &CHANGE)]);
-const NEW: Found<'static> = (Some(0), 7, &SNAPSHOT, &[(8, FIRST, &CHANGE), (9, NEXT, &OTHER)]);
+
+const NEW: Found<'static> = (
+    Some(0),
+    7,
+    &SNAPSHOT,
+    &[(8, FIRST, &CHANGE), (9, NEXT, &OTHER)],
+);
+
 const TURNED: Found<'static> = (Some(1), 8, &LATER, &[]);
 
 fn has_entries(entries: &[Entry], wanted: &[(u64, u64, &[u8])]) -> bool {
@@ -228,12 +235,20 @@ fn damages(rt: HostRuntime) -> Result<(), Fail> {
     for (at, byte, place) in DAMAGES.iter() {
         let mut store = written(rt.alloc())?;
         store.write_at(0, *at, &[*byte])?;
-        assert_eq!(rt; damage(rt.alloc(), &mut store), Some((0, *place)), "byte {at}");
+        assert_eq!(rt;
+            damage(rt.alloc(), &mut store),
+            Some((0, *place)),
+            "byte {at}"
+        );
     }
     for (to, place) in CUTS.iter() {
         let mut store = written(rt.alloc())?;
         cut(&mut store, *to)?;
-        assert_eq!(rt; damage(rt.alloc(), &mut store), Some((0, *place)), "length {to}");
+        assert_eq!(rt;
+            damage(rt.alloc(), &mut store),
+            Some((0, *place)),
+            "length {to}"
+        );
     }
     Ok(())
 }
@@ -242,23 +257,44 @@ fn damages(rt: HostRuntime) -> Result<(), Fail> {
 fn damages_of_two_files(rt: HostRuntime) -> Result<(), Fail> {
     let mut store = turned(rt.alloc())?;
     store.write_at(0, 64, &[9])?;
-    assert_eq!(rt; damage(rt.alloc(), &mut store), Some((0, 0)), "the lesser file's snapshot");
+    assert_eq!(rt;
+        damage(rt.alloc(), &mut store),
+        Some((0, 0)),
+        "the lesser file's snapshot"
+    );
     let mut store = turned(rt.alloc())?;
     store.write_at(0, 75, &[9])?;
-    assert!(rt; opens_as(rt.alloc(), &mut store, TURNED)?, "its entries aren't read");
+    assert!(rt;
+        opens_as(rt.alloc(), &mut store, TURNED)?,
+        "its entries aren't read"
+    );
     store.write_at(1, 64, &[9])?;
-    assert_eq!(rt; damage(rt.alloc(), &mut store), Some((1, 0)), "the current file's snapshot");
+    assert_eq!(rt;
+        damage(rt.alloc(), &mut store),
+        Some((1, 0)),
+        "the current file's snapshot"
+    );
     store.write_at(0, 1, &[9])?;
-    assert_eq!(rt; damage(rt.alloc(), &mut store), Some((0, 0)), "file 0 is judged first");
+    assert_eq!(rt;
+        damage(rt.alloc(), &mut store),
+        Some((0, 0)),
+        "file 0 is judged first"
+    );
     Ok(())
 }
 
 #[test]
 fn generations(rt: HostRuntime) -> Result<(), Fail> {
     let mut store = turned(rt.alloc())?;
-    assert!(rt; opens_as(rt.alloc(), &mut store, TURNED)?, "the greater one");
+    assert!(rt;
+        opens_as(rt.alloc(), &mut store, TURNED)?,
+        "the greater one"
+    );
     store.write_at(1, 0, &WRITTEN)?;
-    assert!(rt; opens_as(rt.alloc(), &mut store, OLD)?, "file 0 where they are equal");
+    assert!(rt;
+        opens_as(rt.alloc(), &mut store, OLD)?,
+        "file 0 where they are equal"
+    );
     store.write_at(0, 0, &[0])?;
     let alone: Found<'_> = (Some(1), 7, &SNAPSHOT, &[(8, FIRST, &CHANGE)]);
     assert!(rt; opens_as(rt.alloc(), &mut store, alone)?, "the only one");

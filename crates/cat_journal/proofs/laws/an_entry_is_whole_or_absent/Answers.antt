@@ -1,6 +1,6 @@
 use Rattle.std.proofs.Common.{refl}
-use Rattle.cat_journal.specs.Contents.{Contents, with_payload}
-use Rattle.cat_journal.specs.Journal.{JournalView, file_of}
+use Rattle.cat_journal.specs.Contents.{with_payload}
+use Rattle.cat_journal.specs.Journal.{file_of}
 use Rattle.cat_journal.proofs.Standing.{may_stand_with, stands_with, current_holds, knows_behind}
 use Rattle.cat_journal.proofs.laws.an_entry_is_whole_or_absent.Goals as goal
 

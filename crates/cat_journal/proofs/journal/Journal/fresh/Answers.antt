@@ -2,7 +2,7 @@ use Rattle.std.proofs.Common.{inl, inr}
 use Rattle.std.proofs.lemmas.Result.{err_from_is_err_and}
 use Rattle.cat_journal.specs.Journal.{JournalView, in_new_file, new_text, first_head}
 use Rattle.cat_journal.proofs.Anew.{making_first, making_second, making_third, makes_failed, makes_all, rose_behind}
-use Rattle.std.proofs.Common.{◌≡◌, ◌∙◌, ℕ, List, [], length, None, Some, sym, ap, subst, rules}
+use Rattle.std.proofs.Common.{◌≡◌, ◌∙◌, ℕ, [], length, None, Some, sym, ap, subst, rules}
 use Rattle.room_base.specs.declared.fault.Failed.{Failed}
 use Rattle.cat_journal.specs.declared.current.CurrentFile.{CurrentFile}
 use Rattle.cat_journal.specs.Contents.{IsFront, contents_of}
