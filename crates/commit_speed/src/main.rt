@@ -55,7 +55,8 @@ fn commit_of(rt: &HostRuntime, folder: Name, units: u32, files: u32) -> Option<(
         cart: label.cart,
         mark: FIRST_MARK,
     };
-    commit_files(&mut disk, &mut buffer, volume, &piece, files).ok()
+    let count = commit_files(&mut disk, &mut buffer, volume, &piece, files).ok()?;
+    if count == files { Some(()) } else { None }
 }
 
 // A piece that fills 64 data blocks.
