@@ -1,0 +1,5 @@
+pub mod Drives
+pub mod Taking
+pub mod Picking
+pub mod Committing
+pub mod Inside

@@ -1,0 +1,54 @@
+//! Laws of drives: each function has an empty body, and its contract is the law.
+
+ghost use Rattle.std.specs.Prelude.{◌≡◌, ◌≢◌, ◌≤◌, ℕ, List, Option, Some, false, true, length};
+ghost use Rattle.std.specs.Prelude.{IsTrue};
+ghost use Rattle.room_base.specs.declared.numbers.Volid.{Volid};
+ghost use Rattle.chunk_mux.specs.Packing.{empty, Fits};
+ghost use Rattle.slot_changer.specs.Drives.{DriveView, IsDrive, in_drive, set_drive, change_drive};
+ghost use Rattle.slot_changer.specs.Drives.{holds_set, pushed, committed};
+ghost use Rattle.slot_changer.specs.Taking.{takes, CanPush, CanCommit};
+ghost use Rattle.slot_changer.specs.Picking.{IsPick};
+
+/// A change of one drive is a change of that drive alone.
+pub fn drives_are_apart()
+    ensures this { (drives : List (Option DriveView)) (drive : ℕ) (held : Option DriveView)
+        → length drives ≡ 4 → IsDrive drive → in_drive (set_drive drives drive held) drive ≡ held }
+    ensures others { (drives : List (Option DriveView)) (drive other : ℕ)
+        (held : Option DriveView) → IsDrive drive → IsDrive other → other ≢ drive
+        → in_drive (set_drive drives drive held) other ≡ in_drive drives other }
+    ensures changed { (drives : List (Option DriveView)) (drive : ℕ) (one : DriveView)
+        (change : DriveView → DriveView) → in_drive drives drive ≡ Some one
+        → change_drive drives drive change ≡ set_drive drives drive (Some (change one)) }
+    ensures four { (drives : List (Option DriveView)) (drive : ℕ) (held : Option DriveView)
+        → length (set_drive drives drive held) ≡ length drives }
+{}
+
+/// A piece that a drive takes can be pushed: at once where it fits the buffer. Where it doesn't, but
+/// would fit an empty one, the buffer can be committed, and then the drive takes the piece and it
+/// can be pushed.
+pub fn taken_can_be_pushed()
+    ensures now { (one : DriveView) (count : ℕ) → one.failed ≡ false
+        → IsTrue (takes (Some one) count) → Fits one.buffer count → CanPush count one }
+    ensures commits { (one : DriveView) (count : ℕ) → one.failed ≡ false
+        → ¬ Fits one.buffer count → Fits (empty one.buffer.units) count → CanCommit one }
+    ensures behind { (one : DriveView) (count : ℕ) → one.failed ≡ false
+        → IsTrue (takes (Some one) count) → ¬ Fits one.buffer count
+        → Fits (empty one.buffer.units) count
+        → IsTrue (takes (Some (committed one)) count) × CanPush count (committed one) }
+{}
+
+/// A buffer that something was pushed into, or that holds a save set, can be committed, unless a
+/// commit has failed.
+pub fn pushed_can_be_committed()
+    ensures pushed { (one : DriveView) (ssid copy offset : ℕ) (piece : List ℕ)
+        → one.failed ≡ false → 1 ≤ length piece → CanCommit (pushed ssid copy offset piece one) }
+    ensures held { (one : DriveView) (ssid : ℕ) → one.failed ≡ false
+        → IsTrue (holds_set (Some one) ssid) → CanCommit one }
+{}
+
+/// There is one pick: which drive it is follows from the drives and what is asked of them.
+pub fn one_pick()
+    ensures { (drives : List (Option DriveView)) (pool : List ℕ) (count : ℕ) (busy : List ℕ)
+        (barred : List Volid) (one other : Option ℕ) → IsPick drives pool count busy barred one
+        → IsPick drives pool count busy barred other → one ≡ other }
+{}
