@@ -55,6 +55,11 @@ abbrev pub holds_set : Option DriveView → ℕ → Bool
 holds_set None ssid = false
 holds_set (Some one) ssid = has_set ssid (all_chunks one.buffer.blocks)
 
+-- whether a commit of its buffer has failed
+abbrev pub has_failed : Option DriveView → Bool
+has_failed None = false
+has_failed (Some one) = one.failed
+
 -- the volume has room for a file of 64 data blocks at its mark place
 abbrev pub HasRoom : DriveView → Type 0
 HasRoom one = one.volume.mark + 64 * one.volume.label.units + 2 ≤ one.volume.label.capacity

@@ -10,6 +10,7 @@ ghost use Rattle.chunk_mux.specs.Packing.{first_used};
 ghost use Rattle.volume_store.specs.Writes.{IsCart};
 ghost use Rattle.slot_changer.specs.Drives.{IsDrive, no_volumes, in_drive, set_drive};
 ghost use Rattle.slot_changer.specs.Drives.{change_drive, volume_of, blocks_in, holds_set};
+ghost use Rattle.slot_changer.specs.Drives.{has_failed};
 ghost use Rattle.slot_changer.specs.Drives.{IsMounted, MayTakeOut};
 ghost use Rattle.slot_changer.specs.Drives.{mounted, pushed, committed, broken};
 ghost use Rattle.slot_changer.specs.Taking.{fits, takes, CanPush, CanCommit};
@@ -90,6 +91,17 @@ impl Drives {
     {
         match &self.drives[place_of(drive)] {
             Some(mounted) => mounted.holds(ssid),
+            None => false,
+        }
+    }
+
+    /// Whether a commit of a drive's buffer has failed, so that the drive is to be emptied.
+    pub fn has_failed(&self, drive: u8) -> bool
+        requires { IsDrive drive }
+        ensures { result ≡ has_failed (in_drive self.now drive) }
+    {
+        match &self.drives[place_of(drive)] {
+            Some(mounted) => mounted.has_failed(),
             None => false,
         }
     }

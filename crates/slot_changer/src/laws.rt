@@ -1,12 +1,14 @@
 //! Laws of drives: each function has an empty body, and its contract is the law.
 
 ghost use Rattle.std.specs.Prelude.{◌≡◌, ◌≢◌, ◌≤◌, ℕ, List, Option, Some, false, true, length};
-ghost use Rattle.std.specs.Prelude.{IsTrue};
+ghost use Rattle.std.specs.Prelude.{IsTrue, IsSomeAnd, IfSome};
+ghost use Rattle.std.specs.Option.{option_map};
 ghost use Rattle.room_base.specs.declared.numbers.Volid.{Volid};
 ghost use Rattle.chunk_mux.specs.Packing.{empty, Fits};
 ghost use Rattle.slot_changer.specs.Drives.{DriveView, IsDrive, in_drive, set_drive, change_drive};
-ghost use Rattle.slot_changer.specs.Drives.{holds_set, pushed, committed};
-ghost use Rattle.slot_changer.specs.Taking.{takes, CanPush, CanCommit};
+ghost use Rattle.slot_changer.specs.Drives.{blocks_in, holds_set, has_failed, IsMounted};
+ghost use Rattle.slot_changer.specs.Drives.{pushed, committed};
+ghost use Rattle.slot_changer.specs.Taking.{fits, takes, CanPush, CanCommit};
 ghost use Rattle.slot_changer.specs.Picking.{IsPick};
 
 /// A change of one drive is a change of that drive alone.
@@ -25,25 +27,31 @@ pub fn drives_are_apart()
 
 /// A piece that a drive takes can be pushed: at once where it fits the buffer. Where it doesn't, but
 /// would fit an empty one, the buffer can be committed, and then the drive takes the piece and it
-/// can be pushed.
+/// can be pushed. A piece of 257,024 bytes fits each empty buffer.
 pub fn taken_can_be_pushed()
-    ensures now { (one : DriveView) (count : ℕ) → one.failed ≡ false
-        → IsTrue (takes (Some one) count) → Fits one.buffer count → CanPush count one }
-    ensures commits { (one : DriveView) (count : ℕ) → one.failed ≡ false
-        → ¬ Fits one.buffer count → Fits (empty one.buffer.units) count → CanCommit one }
-    ensures behind { (one : DriveView) (count : ℕ) → one.failed ≡ false
-        → IsTrue (takes (Some one) count) → ¬ Fits one.buffer count
-        → Fits (empty one.buffer.units) count
-        → IsTrue (takes (Some (committed one)) count) × CanPush count (committed one) }
+    ensures now { (held : Option DriveView) (count : ℕ) → has_failed held ≡ false
+        → IsTrue (takes held count) → IsTrue (fits held count) → IsSomeAnd held (CanPush count) }
+    ensures commits { (held : Option DriveView) (count : ℕ) → has_failed held ≡ false
+        → IsTrue (takes held count) → fits held count ≡ false
+        → IfSome held (λ one. Fits (empty one.buffer.units) count) → IsSomeAnd held CanCommit }
+    ensures behind { (held : Option DriveView) (count : ℕ) → has_failed held ≡ false
+        → IsTrue (takes held count) → fits held count ≡ false
+        → IfSome held (λ one. Fits (empty one.buffer.units) count)
+        → IsTrue (takes (option_map committed held) count)
+        × IsSomeAnd (option_map committed held) (CanPush count) }
+    ensures most { (one : DriveView) (count : ℕ) → IsMounted one → count ≤ 257024
+        → Fits (empty one.buffer.units) count }
 {}
 
-/// A buffer that something was pushed into, or that holds a save set, can be committed, unless a
-/// commit has failed.
+/// A buffer that has a block, holds a save set, or had bytes pushed into it, can be committed,
+/// unless a commit has failed.
 pub fn pushed_can_be_committed()
+    ensures some { (held : Option DriveView) → has_failed held ≡ false → 1 ≤ blocks_in held
+        → IsSomeAnd held CanCommit }
+    ensures holds { (held : Option DriveView) (ssid : ℕ) → has_failed held ≡ false
+        → IsTrue (holds_set held ssid) → IsSomeAnd held CanCommit }
     ensures pushed { (one : DriveView) (ssid copy offset : ℕ) (piece : List ℕ)
         → one.failed ≡ false → 1 ≤ length piece → CanCommit (pushed ssid copy offset piece one) }
-    ensures held { (one : DriveView) (ssid : ℕ) → one.failed ≡ false
-        → IsTrue (holds_set (Some one) ssid) → CanCommit one }
 {}
 
 /// There is one pick: which drive it is follows from the drives and what is asked of them.

@@ -77,6 +77,13 @@ impl Mounted {
         self.buffer.holds(ssid)
     }
 
+    /// Whether a commit has failed.
+    pub(crate) fn has_failed(&self) -> bool
+        ensures { result ≡ self.now.failed }
+    {
+        self.failed
+    }
+
     /// Whether a piece of so many bytes fits the buffer as it is.
     pub(crate) fn fits(&self, length: u64) -> bool
         ensures { result ≡ fits (Some self.now) length }
