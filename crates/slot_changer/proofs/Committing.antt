@@ -8,7 +8,7 @@ use Rattle.room_disk.specs.Writing.{WritesFile}
 use Rattle.room_disk.proofs.Writing.{writes_weaker}
 use Rattle.volume_store.specs.Writes.{opened, AddsFile, MayAddFile}
 use Rattle.slot_changer.specs.Drives.{DriveView}
-use Rattle.slot_changer.specs.Committing.{file_of, AddsBuffer, MayAddBuffer}
+use Rattle.slot_changer.specs.Committing.{cart_file_of, AddsBuffer, MayAddBuffer}
 
 -- the region is sealed from the buffer for the volume's mark place
 abbrev pub IsRegion : DriveView → List ℕ → Type 0
@@ -25,9 +25,9 @@ adds_buffer one region old new sealed adds = record {
 pub writes_buffer : {T E : Type 0} {before now : DiskView} {answer : Result T E} (one : DriveView) (region : List ℕ)
     → one.buffer.units ≡ one.volume.label.units
     → IsSealed one.volume.label.volid.0 one.volume.mark one.buffer.units one.buffer.blocks region
-    → WritesFile (file_of one) (AddsFile one.volume.label one.volume.mark region) (MayAddFile one.volume.label one.volume.mark region)
-        before now answer
-    → WritesFile (file_of one) (AddsBuffer one) (MayAddBuffer one) before now answer
+    → WritesFile (cart_file_of one) (AddsFile one.volume.label one.volume.mark region) (MayAddFile one.volume.label one.volume.mark region)
+    before now answer
+    → WritesFile (cart_file_of one) (AddsBuffer one) (MayAddBuffer one) before now answer
 writes_buffer one region units sealed writes =
     let Sealed : ℕ → Type 0 = λ n. IsSealed one.volume.label.volid.0 one.volume.mark n one.buffer.blocks region in
     let is : IsRegion one region = subst Sealed units sealed in

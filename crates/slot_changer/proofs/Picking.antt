@@ -33,15 +33,15 @@ pub first_passed : (drives : List (Option DriveView)) (pool : List ℕ) (count :
     → IsFirst drives pool count busy barred (places + 1) picked
 first_passed drives pool count busy barred places None first not =
     λ other within may. elim (below_suc other places within) [
-      inl below ↦ first other below may
-    | inr is ↦ not (let P : ℕ → Type 0 = λ n. MayPick pool count barred (at_place drives n) in subst P is may)
+      | inl below ↦ first other below may
+      | inr is ↦ not (let P : ℕ → Type 0 = λ n. MayPick pool count barred (at_place drives n) in subst P is may)
     ]
 first_passed drives pool count busy barred places (Some place) first not = (
   omega (arith, first.0),
   first.1,
   λ other within may. elim (below_suc other places within) [
-    inl below ↦ first.2 other below may
-  | inr is ↦ absurd (not (let P : ℕ → Type 0 = λ n. MayPick pool count barred (at_place drives n) in subst P is may))
+    | inl below ↦ first.2 other below may
+    | inr is ↦ absurd (not (let P : ℕ → Type 0 = λ n. MayPick pool count barred (at_place drives n) in subst P is may))
   ],
 )
 
@@ -57,8 +57,8 @@ goes_behind : (busy : List ℕ) (place places other : ℕ) → place < places �
 goes_behind busy place places other below le is =
     let Goes : ℕ → Type 0 = λ n. GoesFirst busy place n in
     subst Goes (sym is) (elim (not_less (slice_index busy place) (slice_index busy places) le) [
-      inl less ↦ inl less
-    | inr same ↦ inr (same, omega (arith, below))
+      | inl less ↦ inl less
+      | inr same ↦ inr (same, omega (arith, below))
     ])
 
 goes_further : (busy : List ℕ) (places place other : ℕ) → slice_index busy places < slice_index busy place
@@ -75,16 +75,16 @@ first_better drives pool count busy barred places place first may true is = (
   omega (arith, first.0),
   first.1,
   λ other within others. elim (below_suc other places within) [
-    inl below ↦ first.2 other below others
-  | inr here ↦ goes_behind busy place places other first.0 (grind (arith, nat_tests)) here
+    | inl below ↦ first.2 other below others
+    | inr here ↦ goes_behind busy place places other first.0 (grind (arith, nat_tests)) here
   ],
 )
 first_better drives pool count busy barred places place first may false is = (
   omega arith,
   may,
   λ other within others. elim (below_suc other places within) [
-    inl below ↦ goes_further busy places place other (grind (arith, nat_tests)) (first.2 other below others)
-  | inr here ↦ goes_here busy places other here
+    | inl below ↦ goes_further busy places place other (grind (arith, nat_tests)) (first.2 other below others)
+    | inr here ↦ goes_here busy places other here
   ],
 )
 
@@ -96,8 +96,8 @@ first_met drives pool count busy barred places None first may = (
   omega arith,
   may,
   λ other within others. elim (below_suc other places within) [
-    inl below ↦ absurd (first other below others)
-  | inr is ↦ goes_here busy places other is
+    | inl below ↦ absurd (first other below others)
+    | inr is ↦ goes_here busy places other is
   ],
 )
 first_met drives pool count busy barred places (Some place) first may =

@@ -9,8 +9,8 @@ use Rattle.volume_store.specs.Writes.{cart_file, opened, with_file, IsWholeOrAbs
 use Rattle.slot_changer.specs.Drives.{DriveView}
 
 -- the file of the cartridge that the volume is on
-abbrev pub file_of : DriveView → ℕ
-file_of one = cart_file one.volume.cart.0
+abbrev pub cart_file_of : DriveView → ℕ
+cart_file_of one = cart_file one.volume.cart.0
 
 -- the region of the buffer's data blocks for the volume's mark place
 abbrev pub region_of : DriveView → List ℕ
@@ -27,7 +27,7 @@ pub record AddsBuffer (one : DriveView) (old new : List ℕ) : Type 0 where
   pub added : (files : List CommittedFile)
       → Committed old (Labelled one.volume.label files (Closed one.volume.mark))
       → Committed new
-          (with_file one.volume.label files one.volume.mark one.buffer.blocks)
+      (with_file one.volume.label files one.volume.mark one.buffer.blocks)
 
 -- what a commit that may have been cut short leaves: the old files, or these and the new one
 abbrev pub MayAddBuffer : DriveView → List ℕ → List ℕ → Type 0

@@ -61,8 +61,8 @@ has_failed None = false
 has_failed (Some one) = one.failed
 
 -- the volume has room for a file of 64 data blocks at its mark place
-abbrev pub HasRoom : DriveView → Type 0
-HasRoom one = one.volume.mark + 64 * one.volume.label.units + 2 ≤ one.volume.label.capacity
+abbrev pub HasFileRoom : DriveView → Type 0
+HasFileRoom one = one.volume.mark + 64 * one.volume.label.units + 2 ≤ one.volume.label.capacity
 
 -- The volume has a label that may be written, and a mark place. The buffer has data blocks of the
 -- volume's size, and where it has some, the volume has room for as many as it can have.
@@ -71,7 +71,7 @@ pub record IsMounted (one : DriveView) : Type 0 where
   pub label : IsLabel one.volume.label
   pub mark : 1 ≤ one.volume.mark
   pub units : one.buffer.units ≡ one.volume.label.units
-  pub room : 1 ≤ length one.buffer.blocks → HasRoom one
+  pub room : 1 ≤ length one.buffer.blocks → HasFileRoom one
 
 -- the drive may be emptied: its buffer has nothing, or its volume failed
 abbrev pub MayTakeOut : Option DriveView → Type 0
@@ -85,13 +85,13 @@ abbrev pub mounted : Volume → DriveView
 mounted volume = record { volume = volume; buffer = empty volume.label.units; failed = false }
 
 -- a piece of a copy of a save set is put into the buffer
-abbrev pub pushed : ℕ → ℕ → ℕ → List ℕ → DriveView → DriveView
-pushed ssid copy offset piece one =
+abbrev pub after_push : ℕ → ℕ → ℕ → List ℕ → DriveView → DriveView
+after_push ssid copy offset piece one =
     record one { buffer = pack one.buffer ssid copy offset piece }
 
 -- the buffer is on the volume, whose mark place is behind it
-abbrev pub committed : DriveView → DriveView
-committed one = record one {
+abbrev pub after_commit : DriveView → DriveView
+after_commit one = record one {
   volume = record one.volume {
     mark = one.volume.mark + one.volume.label.units * length one.buffer.blocks + 1;
   };
@@ -99,5 +99,5 @@ committed one = record one {
 }
 
 -- a commit has failed
-abbrev pub broken : DriveView → DriveView
-broken one = record one { failed = true }
+abbrev pub after_fault : DriveView → DriveView
+after_fault one = record one { failed = true }

@@ -5,6 +5,7 @@ ghost use Rattle.std.specs.Prelude.{IsTrue, IsSomeAnd, IfSome};
 ghost use Rattle.std.specs.Prelude.{length};
 ghost use Rattle.std.specs.Option.{option_copied, option_map};
 ghost use Rattle.room_disk.specs.Writing.{WritesFile};
+ghost use Rattle.volume_block.specs.Region.{AreBlocks};
 ghost use Rattle.volume_block.specs.Valid.{IsLabel};
 ghost use Rattle.chunk_mux.specs.Packing.{first_used};
 ghost use Rattle.volume_store.specs.Writes.{IsCart};
@@ -12,10 +13,10 @@ ghost use Rattle.slot_changer.specs.Drives.{IsDrive, no_volumes, in_drive, set_d
 ghost use Rattle.slot_changer.specs.Drives.{change_drive, volume_of, blocks_in, holds_set};
 ghost use Rattle.slot_changer.specs.Drives.{has_failed};
 ghost use Rattle.slot_changer.specs.Drives.{IsMounted, MayTakeOut};
-ghost use Rattle.slot_changer.specs.Drives.{mounted, pushed, committed, broken};
+ghost use Rattle.slot_changer.specs.Drives.{mounted, after_push, after_commit, after_fault};
 ghost use Rattle.slot_changer.specs.Taking.{fits, takes, CanPush, CanCommit};
 ghost use Rattle.slot_changer.specs.Picking.{HasEachDrive, MayPick, IsPick, less_busy};
-ghost use Rattle.slot_changer.specs.Committing.{file_of, AddsBuffer, MayAddBuffer};
+ghost use Rattle.slot_changer.specs.Committing.{cart_file_of, AddsBuffer, MayAddBuffer};
 
 use crate::mounted::Mounted;
 use chunk_mux::{MuxBuffer, Span};
@@ -28,12 +29,15 @@ use volume_store::Volume;
 /// Drives are numbered from 1 to this number.
 pub const MAX_DRIVE: u8 = 4;
 
+/// How many drives there are.
+const DRIVES: usize = MAX_DRIVE as usize;
+
 /// The drives of the room, each empty or with a volume and the buffer of its next file.
 #[derive(Drop)]
 pub struct Drives {
     alloc: Global,
     /// What is in drives 1 to 4.
-    drives: [Option<Mounted>; 4],
+    drives: [Option<Mounted>; DRIVES],
 }
 
 impl Model for Drives {
@@ -77,6 +81,8 @@ impl Drives {
         requires { IsDrive drive }
         ensures count { result ≡ blocks_in (in_drive self.now drive) }
         ensures most { result ≤ 64 }
+        ensures allowed { IfSome (in_drive self.now drive)
+            (λ one. AreBlocks one.buffer.units one.buffer.blocks) }
     {
         match &self.drives[place_of(drive)] {
             Some(mounted) => mounted.blocks(),
@@ -167,21 +173,14 @@ impl Drives {
 
     /// Puts the bytes of a copy of a save set from `offset` on into the buffer of a drive, and
     /// answers which of its data blocks they went into, counted from 0.
-    pub fn push(
-        &mut self,
-        drive: u8,
-        ssid: Ssid,
-        copy: CopyNo,
-        offset: u64,
-        piece: &[u8],
-    ) -> Span
+    pub fn push(&mut self, drive: u8, ssid: Ssid, copy: CopyNo, offset: u64, piece: &[u8]) -> Span
         requires drive { IsDrive drive }
         requires ssid { 1 ≤ ssid.0 }
         requires copy { 1 ≤ copy.0 }
         requires ends { offset + length piece.now ≤ 2 ^ 36 }
         requires can { IsSomeAnd (in_drive self.old drive) (CanPush (length piece.now)) }
         ensures pushed { self.new
-            ≡ change_drive self.old drive (pushed ssid.0 copy.0 offset piece.now) }
+            ≡ change_drive self.old drive (after_push ssid.0 copy.0 offset piece.now) }
         ensures first { IfSome (in_drive self.old drive)
             (λ one. result.first ≡ first_used one.buffer piece.now) }
         ensures last { result.last ≡ blocks_in (in_drive self.new drive) - 1 }
@@ -198,10 +197,10 @@ impl Drives {
         requires drive { IsDrive drive }
         requires can { IsSomeAnd (in_drive self.old drive) CanCommit }
         ensures writes { IfSome (in_drive self.old drive) (λ one.
-            WritesFile (file_of one) (AddsBuffer one) (MayAddBuffer one)
+            WritesFile (cart_file_of one) (AddsBuffer one) (MayAddBuffer one)
             (D.view store.old) (D.view store.new) result) }
-        ensures committed { OnOk result (self.new ≡ change_drive self.old drive committed) }
-        ensures failed { OnErr result (self.new ≡ change_drive self.old drive broken) }
+        ensures committed { OnOk result (self.new ≡ change_drive self.old drive after_commit) }
+        ensures failed { OnErr result (self.new ≡ change_drive self.old drive after_fault) }
     {
         let Some(mounted) = &mut self.drives[place_of(drive)] else {
             unreachable!()

@@ -7,11 +7,12 @@ ghost use Rattle.room_base.specs.declared.numbers.Volid.{Volid};
 ghost use Rattle.chunk_mux.specs.Packing.{empty, Fits};
 ghost use Rattle.slot_changer.specs.Drives.{DriveView, IsDrive, in_drive, set_drive, change_drive};
 ghost use Rattle.slot_changer.specs.Drives.{blocks_in, holds_set, has_failed, IsMounted};
-ghost use Rattle.slot_changer.specs.Drives.{pushed, committed};
+ghost use Rattle.slot_changer.specs.Drives.{after_push, after_commit};
 ghost use Rattle.slot_changer.specs.Taking.{fits, takes, CanPush, CanCommit};
 ghost use Rattle.slot_changer.specs.Picking.{IsPick};
 
-/// A change of one drive is a change of that drive alone.
+/// A change of one drive is a change of that drive alone, and the last one stands.
+#[tactic(auto, using(crate::proofs::Changing::one_change))]
 pub fn drives_are_apart()
     ensures this { (drives : List (Option DriveView)) (drive : ℕ) (held : Option DriveView)
         → length drives ≡ 4 → IsDrive drive → in_drive (set_drive drives drive held) drive ≡ held }
@@ -21,13 +22,16 @@ pub fn drives_are_apart()
     ensures changed { (drives : List (Option DriveView)) (drive : ℕ) (one : DriveView)
         (change : DriveView → DriveView) → in_drive drives drive ≡ Some one
         → change_drive drives drive change ≡ set_drive drives drive (Some (change one)) }
+    ensures last { (drives : List (Option DriveView)) (drive : ℕ) (one other : Option DriveView)
+        → set_drive (set_drive drives drive one) drive other ≡ set_drive drives drive other }
     ensures four { (drives : List (Option DriveView)) (drive : ℕ) (held : Option DriveView)
         → length (set_drive drives drive held) ≡ length drives }
 {}
 
-/// A piece that a drive takes can be pushed: at once where it fits the buffer. Where it doesn't, but
-/// would fit an empty one, the buffer can be committed, and then the drive takes the piece and it
-/// can be pushed. A piece of 257,024 bytes fits each empty buffer.
+/// A piece that a drive takes can be pushed: at once where it fits the buffer. Where it doesn't,
+/// but would fit an empty one, the buffer can be committed, and then the drive takes the piece and
+/// it can be pushed. A piece of up to 257,024 bytes fits each empty buffer.
+#[tactic(auto, using(crate::proofs::Taking::taken))]
 pub fn taken_can_be_pushed()
     ensures now { (held : Option DriveView) (count : ℕ) → has_failed held ≡ false
         → IsTrue (takes held count) → IsTrue (fits held count) → IsSomeAnd held (CanPush count) }
@@ -37,8 +41,8 @@ pub fn taken_can_be_pushed()
     ensures behind { (held : Option DriveView) (count : ℕ) → has_failed held ≡ false
         → IsTrue (takes held count) → fits held count ≡ false
         → IfSome held (λ one. Fits (empty one.buffer.units) count)
-        → IsTrue (takes (option_map committed held) count)
-        × IsSomeAnd (option_map committed held) (CanPush count) }
+        → IsTrue (takes (option_map after_commit held) count)
+        × IsSomeAnd (option_map after_commit held) (CanPush count) }
     ensures most { (one : DriveView) (count : ℕ) → IsMounted one → count ≤ 257024
         → Fits (empty one.buffer.units) count }
 {}
@@ -51,7 +55,8 @@ pub fn pushed_can_be_committed()
     ensures holds { (held : Option DriveView) (ssid : ℕ) → has_failed held ≡ false
         → IsTrue (holds_set held ssid) → IsSomeAnd held CanCommit }
     ensures pushed { (one : DriveView) (ssid copy offset : ℕ) (piece : List ℕ)
-        → one.failed ≡ false → 1 ≤ length piece → CanCommit (pushed ssid copy offset piece one) }
+        → one.failed ≡ false → 1 ≤ length piece
+        → CanCommit (after_push ssid copy offset piece one) }
 {}
 
 /// There is one pick: which drive it is follows from the drives and what is asked of them.

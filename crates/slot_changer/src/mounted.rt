@@ -3,14 +3,15 @@
 ghost use Rattle.std.specs.Prelude.{◌≡◌, ◌≤◌, ◌+◌, ◌^◌, ◌-◌, ◌↔◌, Some, OnOk, OnErr, IsTrue};
 ghost use Rattle.std.specs.Prelude.{length};
 ghost use Rattle.room_disk.specs.Writing.{WritesFile};
+ghost use Rattle.volume_block.specs.Region.{AreBlocks};
 ghost use Rattle.volume_block.specs.Valid.{IsLabel};
 ghost use Rattle.chunk_mux.specs.Packing.{empty, first_used};
 ghost use Rattle.volume_store.specs.Writes.{IsCart};
 ghost use Rattle.slot_changer.specs.Drives.{IsMounted, blocks_in, holds_set};
-ghost use Rattle.slot_changer.specs.Drives.{mounted, pushed, committed, broken};
+ghost use Rattle.slot_changer.specs.Drives.{mounted, after_push, after_commit, after_fault};
 ghost use Rattle.slot_changer.specs.Taking.{fits, takes, CanPush, CanCommit};
 ghost use Rattle.slot_changer.specs.Picking.{MayPick};
-ghost use Rattle.slot_changer.specs.Committing.{file_of, AddsBuffer, MayAddBuffer};
+ghost use Rattle.slot_changer.specs.Committing.{cart_file_of, AddsBuffer, MayAddBuffer};
 
 use chunk_mux::{MuxBuffer, Span};
 use room_base::{CopyNo, Failed, Ssid, Volid};
@@ -66,6 +67,7 @@ impl Mounted {
     pub(crate) fn blocks(&self) -> u32
         ensures count { result ≡ length self.now.buffer.blocks }
         ensures most { result ≤ 64 }
+        ensures allowed { AreBlocks self.now.buffer.units self.now.buffer.blocks }
     {
         self.buffer.blocks()
     }
@@ -122,7 +124,7 @@ impl Mounted {
         requires copy { 1 ≤ copy.0 }
         requires ends { offset + length piece.now ≤ 2 ^ 36 }
         requires can { CanPush (length piece.now) self.old }
-        ensures pushed { self.new ≡ pushed ssid.0 copy.0 offset piece.now self.old }
+        ensures pushed { self.new ≡ after_push ssid.0 copy.0 offset piece.now self.old }
         ensures first { result.first ≡ first_used self.old.buffer piece.now }
         ensures last { result.last ≡ length self.new.buffer.blocks - 1 }
     {
@@ -132,10 +134,10 @@ impl Mounted {
     /// Commits the buffer, which is then empty.
     pub(crate) fn commit<D: Store>(&mut self, store: &mut D) -> Result<(), Failed>
         requires { CanCommit self.old }
-        ensures writes { WritesFile (file_of self.old) (AddsBuffer self.old)
+        ensures writes { WritesFile (cart_file_of self.old) (AddsBuffer self.old)
             (MayAddBuffer self.old) (D.view store.old) (D.view store.new) result }
-        ensures committed { OnOk result (self.new ≡ committed self.old) }
-        ensures failed { OnErr result (self.new ≡ broken self.old) }
+        ensures committed { OnOk result (self.new ≡ after_commit self.old) }
+        ensures failed { OnErr result (self.new ≡ after_fault self.old) }
     {
         let count = self.buffer.blocks();
         let mut volume = self.volume;

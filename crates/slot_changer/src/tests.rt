@@ -92,16 +92,40 @@ fn pieces_up_to_the_last_that_is_taken(rt: HostRuntime) -> Result<(), Fail> {
     let mut drives = drives_with(rt.alloc(), 1, 67).ok_or("no memory")?;
     assert_eq!(rt; drives.blocks(1), 33);
     assert!(rt; drives.takes(1, 125_928) && !drives.takes(1, 125_929));
-    assert!(rt; push(&mut drives, 1, 2, 125_928) == Some(Span { first: 32, last: 63 }));
+    assert!(rt;
+        push(&mut drives, 1, 2, 125_928)
+            == Some(Span {
+                first: 32,
+                last: 63
+            })
+    );
     assert!(rt; drives.takes(1, 0) && !drives.takes(1, 1));
     assert!(rt; drives.holds(1, Ssid(2)) && !drives.holds(1, Ssid(3)) && !drives.holds(2, Ssid(2)));
     // 64 blocks of 8,112 bytes.
     let mut drives = drives_with(rt.alloc(), 2, 131).ok_or("no memory")?;
     assert_eq!(rt; drives.blocks(1), 17);
     assert!(rt; drives.takes(1, 388_072) && !drives.takes(1, 388_073));
-    assert!(rt; push(&mut drives, 1, 1, 131_072) == Some(Span { first: 16, last: 32 }));
-    assert!(rt; push(&mut drives, 1, 1, 131_072) == Some(Span { first: 32, last: 48 }));
-    assert!(rt; push(&mut drives, 1, 1, 125_880) == Some(Span { first: 48, last: 63 }));
+    assert!(rt;
+        push(&mut drives, 1, 1, 131_072)
+            == Some(Span {
+                first: 16,
+                last: 32
+            })
+    );
+    assert!(rt;
+        push(&mut drives, 1, 1, 131_072)
+            == Some(Span {
+                first: 32,
+                last: 48
+            })
+    );
+    assert!(rt;
+        push(&mut drives, 1, 1, 125_880)
+            == Some(Span {
+                first: 48,
+                last: 63
+            })
+    );
     assert!(rt; drives.takes(1, 0) && !drives.takes(1, 1));
     assert_eq!(rt; drives.blocks(2), 0);
     assert!(rt; !drives.takes(2, 0));
@@ -147,8 +171,14 @@ fn the_least_busy_drive_is_picked(rt: HostRuntime) -> Result<(), Fail> {
     assert_eq!(rt; drives.pick(b"A", 1, &[2, 1, 0, 0], &[]), Some(4));
     assert_eq!(rt; drives.pick(b"A", 1, &[1, 1, 0, 1], &[]), Some(1));
     assert_eq!(rt; drives.pick(b"A", 1, &[2, 1, 0, 1], &[Volid(2)]), Some(4));
-    assert_eq!(rt; drives.pick(b"A", 1, &[2, 1, 0, 3], &[Volid(4), Volid(2)]), Some(1));
-    assert_eq!(rt; drives.pick(b"A", 1, &[0, 0, 0, 0], &[Volid(4), Volid(2), Volid(1)]), None);
+    assert_eq!(rt;
+        drives.pick(b"A", 1, &[2, 1, 0, 3], &[Volid(4), Volid(2)]),
+        Some(1)
+    );
+    assert_eq!(rt;
+        drives.pick(b"A", 1, &[0, 0, 0, 0], &[Volid(4), Volid(2), Volid(1)]),
+        None
+    );
     assert_eq!(rt; drives.pick(b"B", 1, &[0, 0, 9, 0], &[Volid(4)]), Some(3));
     assert_eq!(rt; drives.pick(b"AB", 1, &[0, 0, 0, 0], &[]), None);
     // 3,991 bytes have room behind one byte, and 253,008 in the other blocks.
