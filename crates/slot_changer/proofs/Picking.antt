@@ -1,10 +1,10 @@
 -- The drive that is picked, as far as a walk over the drives has come.
-use Rattle.std.proofs.Common.{◌≡◌, ◌⊎◌, inl, inr, ℕ, suc, zero, ◌+◌, ◌-◌, ◌<◌, ◌≤◌, List, [], ◌∷◌, sym, subst, ap, arith, refl, length, get_or}
+use Rattle.std.proofs.Common.{◌≡◌, ◌⊎◌, inl, inr, ℕ, suc, zero, ◌+◌, ◌<◌, ◌≤◌, List, [], ◌∷◌, sym, subst, ap, arith, refl, length, get_or}
 use Rattle.std.proofs.lemmas.Bool.Decides.{nat_tests}
 use Rattle.std.specs.Prelude.{Bool, true, false, Option, Some, None, nat_le, if◌then◌else◌, slice_index, slice_index_or}
 use Rattle.room_base.specs.declared.numbers.Volid.{Volid}
-use Rattle.slot_changer.specs.Drives.{DriveView, IsDrive, in_drive}
-use Rattle.slot_changer.specs.Picking.{MayPick, IsPick, GoesBefore, sessions_on, less_busy}
+use Rattle.slot_changer.specs.Drives.{DriveView}
+use Rattle.slot_changer.specs.Picking.{MayPick, less_busy}
 
 -- what is in the drive at a place
 abbrev pub at_place : List (Option DriveView) → ℕ → Option DriveView

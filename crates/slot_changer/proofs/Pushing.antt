@@ -1,5 +1,5 @@
 -- A buffer that something was pushed into has a block.
-use Rattle.std.proofs.Common.{◌≡◌, ℕ, suc, ◌≤◌, List, [], ◌∷◌, length, arith}
+use Rattle.std.proofs.Common.{ℕ, ◌≤◌, List, [], ◌∷◌, length, arith}
 use Rattle.volume_block.specs.Chunks.{ChunkText}
 use Rattle.chunk_mux.specs.Packing.{BufferView, pack, packed, payload_size}
 

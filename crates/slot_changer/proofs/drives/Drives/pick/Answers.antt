@@ -1,4 +1,4 @@
-use Rattle.std.proofs.Common.{◌≡◌, ◌<◌, length, arith, refl, sym}
+use Rattle.std.proofs.Common.{◌≡◌, ◌<◌, length, arith, refl}
 use Rattle.std.specs.Prelude.{Bool, true, false}
 use Rattle.slot_changer.proofs.Picking.{first_met, first_passed, may_pick_at, may_pick_from}
 use Rattle.slot_changer.proofs.drives.Drives.pick.Goals as goal
