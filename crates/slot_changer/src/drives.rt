@@ -1,8 +1,7 @@
 //! The drives of the room.
 
 ghost use Rattle.std.specs.Prelude.{◌≡◌, ◌+◌, ◌-◌, ◌≤◌, ◌<◌, ◌^◌, ◌↔◌, Some, None, OnOk, OnErr};
-ghost use Rattle.std.specs.Prelude.{IsTrue, IsSomeAnd, IfSome};
-ghost use Rattle.std.specs.Prelude.{length};
+ghost use Rattle.std.specs.Prelude.{IsTrue, IsSomeAnd, IfSome, length};
 ghost use Rattle.std.specs.Option.{option_copied, option_map};
 ghost use Rattle.room_disk.specs.Writing.{WritesFile};
 ghost use Rattle.volume_block.specs.Region.{AreBlocks};
@@ -11,8 +10,7 @@ ghost use Rattle.chunk_mux.specs.Packing.{first_used};
 ghost use Rattle.volume_store.specs.Writes.{IsCart};
 ghost use Rattle.slot_changer.specs.Drives.{IsDrive, no_volumes, in_drive, set_drive};
 ghost use Rattle.slot_changer.specs.Drives.{change_drive, volume_of, blocks_in, holds_set};
-ghost use Rattle.slot_changer.specs.Drives.{has_failed};
-ghost use Rattle.slot_changer.specs.Drives.{IsMounted, MayTakeOut};
+ghost use Rattle.slot_changer.specs.Drives.{has_failed, IsMounted, MayTakeOut};
 ghost use Rattle.slot_changer.specs.Drives.{mounted, after_push, after_commit, after_fault};
 ghost use Rattle.slot_changer.specs.Taking.{fits, takes, CanPush, CanCommit};
 ghost use Rattle.slot_changer.specs.Picking.{HasEachDrive, MayPick, IsPick, less_busy};

@@ -1,6 +1,6 @@
 //! Laws of drives: each function has an empty body, and its contract is the law.
 
-ghost use Rattle.std.specs.Prelude.{◌≡◌, ◌≢◌, ◌≤◌, ℕ, List, Option, Some, false, true, length};
+ghost use Rattle.std.specs.Prelude.{◌≡◌, ◌≢◌, ◌≤◌, ℕ, List, Option, Some, false, length};
 ghost use Rattle.std.specs.Prelude.{IsTrue, IsSomeAnd, IfSome};
 ghost use Rattle.std.specs.Option.{option_map};
 ghost use Rattle.room_base.specs.declared.numbers.Volid.{Volid};

@@ -7,7 +7,7 @@ ghost use Rattle.volume_block.specs.Region.{AreBlocks};
 ghost use Rattle.volume_block.specs.Valid.{IsLabel};
 ghost use Rattle.chunk_mux.specs.Packing.{empty, first_used};
 ghost use Rattle.volume_store.specs.Writes.{IsCart};
-ghost use Rattle.slot_changer.specs.Drives.{IsMounted, blocks_in, holds_set};
+ghost use Rattle.slot_changer.specs.Drives.{IsMounted, holds_set};
 ghost use Rattle.slot_changer.specs.Drives.{mounted, after_push, after_commit, after_fault};
 ghost use Rattle.slot_changer.specs.Taking.{fits, takes, CanPush, CanCommit};
 ghost use Rattle.slot_changer.specs.Picking.{MayPick};
@@ -140,11 +140,10 @@ impl Mounted {
         ensures failed { OnErr result (self.new ≡ after_fault self.old) }
     {
         let count = self.buffer.blocks();
-        let mut volume = self.volume;
+        let volume = &mut self.volume;
         let region = self.buffer.seal(volume.label.volid, volume.mark);
         match volume.commit(store, region, count) {
             Ok(()) => {
-                self.volume = volume;
                 self.buffer.clear();
                 Ok(())
             }

@@ -1,4 +1,4 @@
-ghost use Rattle.std.specs.Prelude.{◌≡◌, ◌≤◌, ◌+◌, ◌*◌};
+ghost use Rattle.std.specs.Prelude.{◌≤◌, ◌+◌, ◌*◌};
 ghost use Rattle.volume_block.specs.Layout.{IsUnits};
 ghost use Rattle.volume_block.specs.Valid.{IsLabel};
 ghost use Rattle.slot_changer.specs.Drives.{IsDrive};
