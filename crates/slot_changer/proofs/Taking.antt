@@ -24,12 +24,12 @@ room_behind mark blocks units capacity false room not = grind (arith, nat_tests)
 -- where a piece fits the buffer it can be pushed
 pub can_push : (held : Option DriveView) (count : ℕ) → has_failed held ≡ false → IsTrue (takes held count)
     → IsTrue (fits held count) → IsSomeAnd held (CanPush count)
-can_push None count sound taken fit = absurd (not_true taken)
-can_push (Some one) count sound taken fit = record {
+can_push None count whole taken fit = absurd (not_true taken)
+can_push (Some one) count whole taken fit = record {
   fits = grind (arith, nat_tests);
   room = room_here one.volume.mark (length one.buffer.blocks) one.volume.label.units one.volume.label.capacity
       (nat_le count (fits_in one.buffer)) taken fit;
-  sound = sound;
+  no_fault = whole;
 }
 
 -- a piece that would fit an empty buffer fits one without blocks
@@ -41,10 +41,10 @@ begun units (block ∷ more) count not fit = omega arith
 -- where it doesn't, the buffer can be committed
 pub can_commit : (held : Option DriveView) (count : ℕ) → has_failed held ≡ false → IsTrue (takes held count)
     → fits held count ≡ false → IfSome held (λ one. Fits (empty one.buffer.units) count) → IsSomeAnd held CanCommit
-can_commit None count sound taken not fit = absurd (not_true taken)
-can_commit (Some one) count sound taken not fit = record {
+can_commit None count whole taken not fit = absurd (not_true taken)
+can_commit (Some one) count whole taken not fit = record {
   some = begun one.buffer.units one.buffer.blocks count not fit;
-  sound = sound;
+  no_fault = whole;
 }
 
 room_after : (mark blocks units capacity : ℕ) (fit : Bool) → mark + 64 * units + 2 ≤ capacity → IsTrue fit
@@ -56,8 +56,8 @@ room_after mark blocks units capacity false room fit = absurd (not_true fit)
 pub can_push_behind : (held : Option DriveView) (count : ℕ) → has_failed held ≡ false → IsTrue (takes held count)
     → fits held count ≡ false → IfSome held (λ one. Fits (empty one.buffer.units) count)
     → IsTrue (takes (option_map after_commit held) count) × IsSomeAnd (option_map after_commit held) (CanPush count)
-can_push_behind None count sound taken not fit = absurd (not_true taken)
-can_push_behind (Some one) count sound taken not fit =
+can_push_behind None count whole taken not fit = absurd (not_true taken)
+can_push_behind (Some one) count whole taken not fit =
     let units = one.volume.label.units in
     let capacity = one.volume.label.capacity in
     let blocks = length one.buffer.blocks in
@@ -65,7 +65,7 @@ can_push_behind (Some one) count sound taken not fit =
     room_behind one.volume.mark blocks units capacity (nat_le count (fits_in one.buffer)) taken not in (
       room_after (one.volume.mark + units * blocks + 1) 0 units capacity (nat_le count (fits_in (empty one.buffer.units))) room
           (grind (arith, nat_tests)),
-      record { fits = fit; room = room; sound = sound },
+      record { fits = fit; room = room; no_fault = whole },
     )
 
 pub ruleset taken = (can_push, can_commit, can_push_behind)

@@ -28,9 +28,9 @@ takes (Some one) count =
 pub record CanPush (count : ℕ) (one : DriveView) : Type 0 where
   pub fits : Fits one.buffer count
   pub room : HasFileRoom one
-  pub sound : one.failed ≡ false
+  pub no_fault : one.failed ≡ false
 
 -- a buffer may be committed: it isn't empty, and no commit has failed
 pub record CanCommit (one : DriveView) : Type 0 where
   pub some : 1 ≤ length one.buffer.blocks
-  pub sound : one.failed ≡ false
+  pub no_fault : one.failed ≡ false

@@ -66,7 +66,7 @@ impl Drives {
         ensures volume { option_copied result
             ≡ option_map volume_of (in_drive self.now drive) }
         ensures allowed { IfSome (in_drive self.now drive) IsMounted }
-        ensures drives { length self.now ≡ 4 }
+        ensures four { length self.now ≡ 4 }
     {
         match &self.drives[place_of(drive)] {
             Some(mounted) => Some(mounted.volume()),
