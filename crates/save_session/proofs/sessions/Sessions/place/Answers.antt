@@ -1,0 +1,35 @@
+use Rattle.std.proofs.Common.{◌≡◌, ℕ, List, Option, None, Result, Ok, Err, IsSome, refl, sym, subst, ap, ◌∙◌}
+use Rattle.std.specs.Option.{is_some}
+use Rattle.std.specs.Prelude.{IsOk}
+use Rattle.std.specs.Ordering.{nat_cmp}
+use Rattle.std.proofs.lemmas.Bool.{true≢false}
+use Rattle.std.proofs.lemmas.Cmp.{nat_cmp_total}
+use Rattle.room_base.specs.declared.numbers.Ssid.{Ssid}
+use Rattle.room_base.specs.Ordered.{Ascends, IsPlace}
+use Rattle.room_base.proofs.OrderedSearch.{none_at}
+use Rattle.save_session.specs.Kept.{number_of}
+use Rattle.save_session.specs.Sessions.{SessionsView, SessionView, IsOpen, find_session, ssid_of}
+use Rattle.save_session.proofs.Keeping.{place_in_views}
+use Rattle.save_session.proofs.sessions.Sessions.place.Goals as goal
+
+-- an open session has a place
+has_place : (k : ℕ) (views : List SessionView) (r : Result ℕ ℕ) → IsPlace nat_cmp ssid_of k views r → IsOpen k views → IsOk r
+has_place k views (Ok at) place is = refl
+has_place k views (Err at) place is = absurd (true≢false (sym is ∙ ap (λ (o : Option SessionView). is_some o) (none_at nat_cmp_total ssid_of k views at place)))
+
+pub place_of-requires : goal.place_of-requires
+place_of-requires c = subst (Ascends nat_cmp number_of) (sym c.deref.ensures.value) c.self.invariant.ascending
+
+pub unwrap-requires : goal.unwrap-requires
+unwrap-requires c =
+    let k = c.args.ssid.0 in
+    let place = place_in_views _ _ c.self.invariant k c.place_of.result (subst (λ (xs : List Ssid). IsPlace nat_cmp number_of k xs c.place_of.result) c.deref.ensures.value c.place_of.ensures) in
+    has_place k _ c.place_of.result place (subst (λ (v : SessionsView). IsOpen k v.sessions) (sym c.self.view_is) c.requires)
+
+pub returns-clause-place : goal.returns-clause-place
+returns-clause-place c =
+    let k = c.args.ssid.0 in
+    let at = c.unwrap.result in
+    let there = subst (λ (r : Result ℕ ℕ). IsPlace nat_cmp number_of k c.deref.result.now r) c.unwrap.ensures c.place_of.ensures in
+    let place = place_in_views _ _ c.self.invariant k (Ok at) (subst (λ (xs : List Ssid). IsPlace nat_cmp number_of k xs (Ok at)) c.deref.ensures.value there) in
+    subst (λ (v : SessionsView). IsPlace nat_cmp ssid_of k v.sessions (Ok at)) c.self.view_is place
