@@ -1,4 +1,6 @@
 pub mod Keeping
+pub mod Leaving
 pub mod Placing
+pub mod Running
 pub mod Sending
 pub mod Views

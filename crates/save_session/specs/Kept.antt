@@ -8,8 +8,8 @@ use Rattle.room_base.specs.Ordered.{Ascends}
 use Rattle.save_session.specs.declared.session.Session.{Session}
 use Rattle.save_session.specs.Sessions.{SessionView, PartRoom, SessionsView, IsSession, drive_after}
 
-abbrev pub view_of : Session → SessionView
-view_of session = record {
+abbrev pub session_view : Session → SessionView
+session_view session = record {
   head = session.text.head;
   sent = session.text.bytes;
   reading = session.reader;
@@ -28,8 +28,8 @@ abbrev pub left_by : ℕ → Session → Session
 left_by drive session = record session { drive = drive_after drive session.drive }
 
 -- the hasher holds the bytes sent, and their number is kept
-pub record IsKept (session : Session) : Type 0 where
-  pub is : IsSession (view_of session)
+pub record IsSessionKept (session : Session) : Type 0 where
+  pub is : IsSession (session_view session)
   pub held : Holds256 session.hasher session.text.bytes
   pub next : session.next ≡ length session.text.bytes
 
@@ -40,10 +40,10 @@ abbrev pub ssid_in : Session → Ssid
 ssid_in session = session.text.head.ssid
 
 -- the ssids of the sessions, which ascend, and the sessions
-pub record AreKept (ssids : List Ssid) (sessions : List Session) : Type 0 where
+pub record AreSessionsKept (ssids : List Ssid) (sessions : List Session) : Type 0 where
   pub listed : ssids ≡ map ssid_in sessions
   pub ascending : Ascends nat_cmp number_of ssids
-  pub each : AllByRecursion IsKept sessions
+  pub each : AllByRecursion IsSessionKept sessions
 
-abbrev pub views_of : List Session → SessionsView
-views_of sessions = record { sessions = map view_of sessions; rooms = map room_of sessions }
+abbrev pub sessions_view : List Session → SessionsView
+sessions_view sessions = record { sessions = map session_view sessions; rooms = map room_of sessions }

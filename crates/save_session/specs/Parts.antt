@@ -4,13 +4,13 @@ use Rattle.std.specs.Prelude.{if◌then◌else◌}
 use Rattle.media_db.specs.declared.copies.Section.{Section}
 
 -- two sections lie in one file of one volume
-abbrev pub in_one_file : Section → Section → Bool
-in_one_file one other = (one.volid.0 == other.volid.0) && (one.mark == other.mark)
+abbrev pub is_same_file : Section → Section → Bool
+is_same_file one other = (one.volid.0 == other.volid.0) && (one.mark == other.mark)
 
 -- the last section lies in the file of the part
 abbrev pub end_in_file_of : Section → List Section → Bool
 end_in_file_of part [] = false
-end_in_file_of part (section ∷ []) = in_one_file section part
+end_in_file_of part (section ∷ []) = is_same_file section part
 end_in_file_of part (section ∷ next ∷ sections) = end_in_file_of part (next ∷ sections)
 
 -- a section with the part behind it
@@ -29,19 +29,19 @@ with_part part sections =
     if end_in_file_of part sections then lengthen_last part sections else sections ++ part ∷ []
 
 -- a section has bytes, and its least block isn't above its greatest
-pub record IsRun (section : Section) : Type 0 where
+pub record IsSection (section : Section) : Type 0 where
   pub bytes : section.from < section.to
   pub blocks : section.first ≤ section.last
 
 -- sections, each of which begins where the one before ends, the first at this offset
-abbrev pub TileFrom : ℕ → List Section → Type 0
-TileFrom place [] = Unit {0}
-TileFrom place (section ∷ sections) =
-    (section.from ≡ place) × IsRun section × TileFrom section.to sections
+abbrev pub AreSectionsFrom : ℕ → List Section → Type 0
+AreSectionsFrom place [] = Unit {0}
+AreSectionsFrom place (section ∷ sections) =
+    (section.from ≡ place) × IsSection section × AreSectionsFrom section.to sections
 
--- sections that tile a stream from its beginning
-abbrev pub Tile : List Section → Type 0
-Tile sections = TileFrom 0 sections
+-- sections that follow each other from the stream's beginning on
+abbrev pub AreSections : List Section → Type 0
+AreSections sections = AreSectionsFrom 0 sections
 
 -- where sections end that begin at this offset
 abbrev pub end_from : ℕ → List Section → ℕ
@@ -62,5 +62,5 @@ last_block (section ∷ next ∷ sections) = last_block (next ∷ sections)
 -- lies in no block before the greatest of that.
 pub record IsNextPart (part : Section) (sections : List Section) : Type 0 where
   pub from : part.from ≡ end_of sections
-  pub run : IsRun part
+  pub run : IsSection part
   pub blocks : end_in_file_of part sections ≡ true → last_block sections ≤ part.first

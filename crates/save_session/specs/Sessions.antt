@@ -15,7 +15,7 @@ use Rattle.save_stream.specs.Standing.{AreBytes}
 use Rattle.media_db.specs.declared.copies.Section.{Section}
 use Rattle.save_session.specs.declared.checked.Checked.{Checked}
 use Rattle.save_session.specs.declared.checked.Checked.TheVariants as checks
-use Rattle.save_session.specs.Parts.{Tile, with_part}
+use Rattle.save_session.specs.Parts.{AreSections, with_part}
 
 -- ---- one session
 
@@ -88,7 +88,7 @@ check_sent next offset size =
     if nat_le (offset + size) next then checks.Repeat next
     else (if offset == next then checks.New else checks.Gap next)
 
--- The head is allowed, the reader has read it and the bytes sent, and the sections tile the stream.
+-- The head is allowed, the reader has read it and the bytes sent, and the sections follow each other.
 pub record IsSession (session : SessionView) : Type 0 where
   pub allowed : IsHead session.head
   pub bytes : AreBytes session.sent
@@ -96,7 +96,7 @@ pub record IsSession (session : SessionView) : Type 0 where
       ≡ Ok session.reading
   pub count : session.reading.read ≡ length (head_text session.head) + length session.sent
   pub size : session.reading.read ≤ max_size
-  pub sections : Tile session.sections
+  pub sections : AreSections session.sections
 
 -- ---- the open ones
 
@@ -104,7 +104,7 @@ abbrev pub ssid_of : SessionView → ℕ
 ssid_of session = session.head.ssid.0
 
 -- the ssids ascend strictly, and each is a session
-pub record AreSessions (sessions : List SessionView) : Type 0 where
+pub record AreOpenSessions (sessions : List SessionView) : Type 0 where
   pub ascending : Ascends nat_cmp ssid_of sessions
   pub each : AllByRecursion IsSession sessions
 

@@ -6,6 +6,7 @@ ghost use Rattle.std.specs.Borrow.{ftrue};
 ghost use Rattle.save_stream.specs.declared.head.SetHead.{SetHead};
 
 use save_stream::SetHead;
+use std::fmt;
 use std::marker::Model;
 
 /// The head of a save set, and the bytes that were sent behind it. Clauses read both; the program
@@ -24,6 +25,12 @@ impl Model for SentText {
 unsafe impl Send for SentText {}
 
 unsafe impl Sync for SentText {}
+
+impl fmt::Debug for SentText {
+    fn fmt<W: fmt::Write>(&self, f: &mut fmt::Formatter<W>) -> fmt::Result {
+        f.write_str("SentText")
+    }
+}
 
 /// Bytes of a save set that came together.
 #[derive(Clone, Copy)]

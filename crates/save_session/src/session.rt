@@ -3,8 +3,8 @@
 ghost use Rattle.std.specs.Prelude.{◌≡◌, ◌+◌, ◌<◌, ◌≤◌, ◌^◌, length, IfOk, OnOk, OnErr, Some, None};
 ghost use Rattle.std.specs.Prelude.{vec_len, vec_capacity};
 ghost use Rattle.save_stream.specs.Spelling.{IsHead};
-ghost use Rattle.save_session.specs.Kept.{IsKept, left_by, room_of, view_of};
-ghost use Rattle.save_session.specs.Parts.{IsNextPart, end_in_file_of, in_one_file, with_part};
+ghost use Rattle.save_session.specs.Kept.{IsSessionKept, left_by, room_of, session_view};
+ghost use Rattle.save_session.specs.Parts.{IsNextPart, end_in_file_of, is_same_file, with_part};
 ghost use Rattle.save_session.specs.Sessions.{check_sent, digest_of, placed_on, started};
 ghost use Rattle.save_session.specs.Sessions.{FollowsPiece, with_piece};
 
@@ -17,7 +17,7 @@ use sha2::{Digest, Sha256};
 use std::alloc::Global;
 
 /// A save set that is being sent.
-#[derive(Drop)]
+#[derive(Debug, Drop)]
 pub struct Session {
     pub(crate) text: SentText,
     pub(crate) reader: StreamReader,
@@ -32,8 +32,8 @@ pub struct Session {
 impl Session {
     pub(crate) fn start(alloc: Global, head: SetHead) -> Result<Session, Memory>
         requires { IsHead head }
-        ensures view { IfOk result (λ session. view_of session ≡ started head) }
-        ensures kept { IfOk result (λ session. IsKept session) }
+        ensures view { IfOk result (λ session. session_view session ≡ started head) }
+        ensures kept { IfOk result (λ session. IsSessionKept session) }
     {
         let text = SentText::behind(&head);
         Ok(Session {
@@ -48,12 +48,12 @@ impl Session {
 
     // The piece is digested once the reader has taken it.
     pub(crate) fn take(&mut self, piece: &[u8]) -> Result<(), StreamFault>
-        requires kept { IsKept self.old }
+        requires kept { IsSessionKept self.old }
         requires size { self.old.reader.read + length piece.now ≤ 2 ^ 36 }
-        ensures read { FollowsPiece piece.now (view_of self.old) result }
-        ensures ok { OnOk result (view_of self.new ≡ with_piece piece.now (view_of self.old)) }
+        ensures read { FollowsPiece piece.now (session_view self.old) result }
+        ensures ok { OnOk result (session_view self.new ≡ with_piece piece.now (session_view self.old)) }
         ensures err { OnErr result (self.new ≡ self.old) }
-        ensures kept { IsKept self.new }
+        ensures kept { IsSessionKept self.new }
         ensures room { room_of self.new ≡ room_of self.old }
     {
         self.reader.take(piece)?;
@@ -64,8 +64,8 @@ impl Session {
     }
 
     pub(crate) fn digest(&self) -> Option<[u8; 32]>
-        requires { IsKept self.now }
-        ensures { result ≡ digest_of (view_of self.now) }
+        requires { IsSessionKept self.now }
+        ensures { result ≡ digest_of (session_view self.now) }
     {
         if !self.reader.ended() {
             return None;
@@ -88,11 +88,11 @@ impl Session {
     }
 
     pub(crate) fn place(&mut self, drive: u8, part: Section)
-        requires kept { IsKept self.old }
+        requires kept { IsSessionKept self.old }
         requires room { vec_len self.old.sections < vec_capacity self.old.sections }
         requires part { IsNextPart part self.old.sections.items }
-        ensures view { view_of self.new ≡ placed_on drive part (view_of self.old) }
-        ensures kept { IsKept self.new }
+        ensures view { session_view self.new ≡ placed_on drive part (session_view self.old) }
+        ensures kept { IsSessionKept self.new }
         ensures room { (room_of self.old).room ≤ (room_of self.new).room + 1 }
     {
         self.drive = Some(drive);
@@ -101,9 +101,9 @@ impl Session {
 
     // Makes room for one more section.
     pub(crate) fn reserve(&mut self) -> Result<(), Memory>
-        requires { IsKept self.old }
-        ensures view { view_of self.new ≡ view_of self.old }
-        ensures kept { IsKept self.new }
+        requires { IsSessionKept self.old }
+        ensures view { session_view self.new ≡ session_view self.old }
+        ensures kept { IsSessionKept self.new }
         ensures room { (room_of self.old).room ≤ (room_of self.new).room }
         ensures ok { OnOk result (0 < (room_of self.new).room) }
     {
@@ -149,7 +149,7 @@ fn end_in_file_of(sections: &[Section], part: &Section) -> bool
 }
 
 fn are_in_one_file(one: &Section, other: &Section) -> bool
-    ensures { result ≡ in_one_file one.now other.now }
+    ensures { result ≡ is_same_file one.now other.now }
 {
     one.volid.0 == other.volid.0 && one.mark == other.mark
 }

@@ -1,13 +1,14 @@
 ghost use Rattle.std.specs.Prelude.{◌≡◌, ℕ, ◌+◌, ◌<◌, ◌≤◌, ◌^◌, [], length, map, OnOk, OnErr, IfSome};
 ghost use Rattle.std.specs.Prelude.{Ok, Some, None};
 ghost use Rattle.std.specs.List.{AllByRecursion};
+ghost use Rattle.std.specs.Option.{is_some};
 ghost use Rattle.std.specs.Ordering.{nat_cmp};
 ghost use Rattle.room_base.specs.Ordered.{Ascends, IsPlace};
 ghost use Rattle.save_stream.specs.Spelling.{IsHead};
-ghost use Rattle.save_session.specs.Kept.{IsKept, left_by, number_of, view_of};
+ghost use Rattle.save_session.specs.Kept.{IsSessionKept, left_by, number_of, session_view};
 ghost use Rattle.save_session.specs.Parts.{IsNextPart};
-ghost use Rattle.save_session.specs.Sessions.{AreSessions, FollowsPiece, IsOpen, KeepsOtherRooms};
-ghost use Rattle.save_session.specs.Sessions.{SessionView, change_session, check_open};
+ghost use Rattle.save_session.specs.Sessions.{AreOpenSessions, FollowsPiece, IsOpen, KeepsOtherRooms};
+ghost use Rattle.save_session.specs.Sessions.{IsSession, SessionView, change_session, check_open};
 ghost use Rattle.save_session.specs.Sessions.{close_session, digest_of, find_session, leave_drive};
 ghost use Rattle.save_session.specs.Sessions.{of_session, placed_on, room_for, ssid_of};
 ghost use Rattle.save_session.specs.Sessions.{start_session, with_piece};
@@ -22,7 +23,7 @@ use std::marker::Model;
 
 /// The open sessions. Contracts see what each has sent, where that lies, and how many more sections
 /// it can be given without taking memory.
-#[derive(Drop)]
+#[derive(Debug, Drop)]
 pub struct Sessions {
     /// Those of `sessions`, at the same places.
     ssids: Vec<Ssid>,
@@ -34,11 +35,11 @@ impl Model for Sessions {
 
     ghost Value = { SessionsView };
 
-    ghost use Rattle.save_session.specs.Kept.{AreKept, views_of};
+    ghost use Rattle.save_session.specs.Kept.{AreSessionsKept, sessions_view};
 
-    ghost view = { λ s. views_of s.sessions.items };
+    ghost view = { λ s. sessions_view s.sessions.items };
 
-    ghost invariant = { λ s. AreKept s.ssids.items s.sessions.items };
+    ghost invariant = { λ s. AreSessionsKept s.ssids.items s.sessions.items };
 }
 
 impl Sessions {
@@ -75,16 +76,24 @@ impl Sessions {
     /// The ssids of the open sessions, ascending.
     pub fn ssids(&self) -> &[Ssid]
         ensures value { map number_of result.now ≡ map ssid_of self.now.sessions }
-        ensures sessions { AreSessions self.now.sessions }
+        ensures count { length result.now ≡ length self.now.sessions }
+        ensures sessions { AreOpenSessions self.now.sessions }
     {
         &self.ssids
+    }
+
+    pub fn is_open(&self, ssid: Ssid) -> bool
+        ensures { result ≡ is_some (find_session ssid.0 self.now.sessions) }
+    {
+        place_of(&self.ssids, ssid).is_ok()
     }
 
     /// The reader of a session. It has read the head and the bytes sent behind it.
     pub fn reader(&self, ssid: Ssid) -> &StreamReader
         requires { IsOpen ssid.0 self.now.sessions }
-        ensures { of_session (λ session. session.reading) ssid.0 self.now.sessions
+        ensures value { of_session (λ session. session.reading) ssid.0 self.now.sessions
             ≡ Some result.now }
+        ensures session { IfSome (find_session ssid.0 self.now.sessions) IsSession }
     {
         &self.session(ssid).reader
     }
@@ -211,8 +220,8 @@ impl Sessions {
 
     fn session(&self, ssid: Ssid) -> &Session
         requires { IsOpen ssid.0 self.now.sessions }
-        ensures found { find_session ssid.0 self.now.sessions ≡ Some (view_of result.now) }
-        ensures kept { IsKept result.now }
+        ensures found { find_session ssid.0 self.now.sessions ≡ Some (session_view result.now) }
+        ensures kept { IsSessionKept result.now }
     {
         &self.sessions[self.place(ssid)]
     }

@@ -4,7 +4,7 @@ use Rattle.std.proofs.lemmas.Cmp.{nat_cmp_total}
 use Rattle.room_base.specs.declared.numbers.Ssid.{Ssid}
 use Rattle.room_base.specs.Ordered.{Ascends, IsPlace}
 use Rattle.room_base.proofs.OrderedSearch.{none_at}
-use Rattle.save_session.specs.Kept.{number_of, view_of}
+use Rattle.save_session.specs.Kept.{number_of, session_view}
 use Rattle.save_session.specs.Sessions.{SessionsView, SessionView, check_open, check_sent, find_session, ssid_of}
 use Rattle.save_session.proofs.Keeping.{found_in_value, found_there, kept_there, place_in_views}
 use Rattle.save_session.proofs.sessions.Sessions.check.Goals as goal
@@ -18,7 +18,7 @@ returns-in-Ok c =
     let at = c.in-Ok.at in
     let place = place_in_views _ _ c.self.invariant k (Ok at) (subst (λ (xs : List Ssid). IsPlace nat_cmp number_of k xs (Ok at)) c.deref.ensures.value c.in-Ok.ensures) in
     let session = c.index.result.now in
-    let found = found_in_value k _ _ c.self.view_is (view_of session) (found_there _ _ c.self.invariant k at place session c.index.ensures) in
+    let found = found_in_value k _ _ c.self.view_is (session_view session) (found_there _ _ c.self.invariant k at place session c.index.ensures) in
     let next = (kept_there _ _ c.self.invariant k at place session c.index.ensures).next in
     c.check.ensures ∙ ap (λ n. check_sent n c.args.offset c.args.length) next ∙ ap (λ (o : Option SessionView). check_open o c.args.offset c.args.length) (sym found)
 

@@ -9,13 +9,8 @@ use Rattle.room_base.specs.Ordered.{Ascends, IsPlace}
 use Rattle.room_base.proofs.OrderedSearch.{none_at}
 use Rattle.save_session.specs.Kept.{number_of}
 use Rattle.save_session.specs.Sessions.{SessionsView, SessionView, IsOpen, find_session, ssid_of}
-use Rattle.save_session.proofs.Keeping.{place_in_views}
+use Rattle.save_session.proofs.Keeping.{open_at, place_in_views}
 use Rattle.save_session.proofs.sessions.Sessions.place.Goals as goal
-
--- an open session has a place
-has_place : (k : ℕ) (views : List SessionView) (r : Result ℕ ℕ) → IsPlace nat_cmp ssid_of k views r → IsOpen k views → IsOk r
-has_place k views (Ok at) place is = refl
-has_place k views (Err at) place is = absurd (true≢false (sym is ∙ ap (λ (o : Option SessionView). is_some o) (none_at nat_cmp_total ssid_of k views at place)))
 
 pub place_of-requires : goal.place_of-requires
 place_of-requires c = subst (Ascends nat_cmp number_of) (sym c.deref.ensures.value) c.self.invariant.ascending
@@ -23,8 +18,9 @@ place_of-requires c = subst (Ascends nat_cmp number_of) (sym c.deref.ensures.val
 pub unwrap-requires : goal.unwrap-requires
 unwrap-requires c =
     let k = c.args.ssid.0 in
-    let place = place_in_views _ _ c.self.invariant k c.place_of.result (subst (λ (xs : List Ssid). IsPlace nat_cmp number_of k xs c.place_of.result) c.deref.ensures.value c.place_of.ensures) in
-    has_place k _ c.place_of.result place (subst (λ (v : SessionsView). IsOpen k v.sessions) (sym c.self.view_is) c.requires)
+    let r = c.place_of.result in
+    let place = place_in_views _ _ c.self.invariant k r (subst (λ (xs : List Ssid). IsPlace nat_cmp number_of k xs r) c.deref.ensures.value c.place_of.ensures) in
+    open_at _ _ c.self.invariant k r place ∙ subst (λ (v : SessionsView). IsOpen k v.sessions) (sym c.self.view_is) c.requires
 
 pub returns-clause-place : goal.returns-clause-place
 returns-clause-place c =

@@ -1,6 +1,6 @@
 use Rattle.std.proofs.Common.{◌≡◌, ◌<◌, ◌∙◌, ap, sym, subst, arith}
 use Rattle.save_session.specs.declared.session.Session.{Session}
-use Rattle.save_session.specs.Kept.{room_of, view_of, views_of}
+use Rattle.save_session.specs.Kept.{room_of, session_view, sessions_view}
 use Rattle.save_session.specs.Parts.{IsNextPart}
 use Rattle.save_session.specs.Sessions.{SessionsView, SessionView, placed_on, room_for}
 use Rattle.save_session.proofs.Keeping.{changed_views, found_in_value, found_there, kept_after, others_after, place_of_value, room_after, room_there}
@@ -20,8 +20,8 @@ place-requires-clause-part c =
     let k = c.args.ssid.0 in
     let old = c.index_mut-session.result.now in
     let place = place_of_value k _ _ c.self.view_is c.place-at.result c.place-at.ensures.place in
-    let found = found_in_value k _ _ c.self.view_is (view_of old) (found_there _ _ c.self.invariant k c.place-at.result place old c.index_mut-session.ensures.value) in
-    of_some (λ (session : SessionView). IsNextPart c.args.part session.sections) _ (view_of old) found c.requires.part
+    let found = found_in_value k _ _ c.self.view_is (session_view old) (found_there _ _ c.self.invariant k c.place-at.result place old c.index_mut-session.ensures.value) in
+    of_some (λ (session : SessionView). IsNextPart c.args.part session.sections) _ (session_view old) found c.requires.part
 
 pub invariant_of-self : goal.invariant_of-self
 invariant_of-self c =

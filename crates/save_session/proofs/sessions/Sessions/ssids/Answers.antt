@@ -1,8 +1,8 @@
-use Rattle.std.proofs.Common.{◌≡◌, List, map, sym, subst, ap, ◌∙◌}
+use Rattle.std.proofs.Common.{◌≡◌, List, length, map, sym, subst, ap, ◌∙◌}
 use Rattle.room_base.specs.declared.numbers.Ssid.{Ssid}
 use Rattle.save_session.specs.Kept.{number_of}
-use Rattle.save_session.specs.Sessions.{SessionsView, AreSessions, ssid_of}
-use Rattle.save_session.proofs.Keeping.{are_sessions, numbers_listed}
+use Rattle.save_session.specs.Sessions.{SessionsView, AreOpenSessions, ssid_of}
+use Rattle.save_session.proofs.Keeping.{are_sessions, count_listed, numbers_listed}
 use Rattle.save_session.proofs.sessions.Sessions.ssids.Goals as goal
 
 pub returns-clause-value : goal.returns-clause-value
@@ -12,4 +12,7 @@ returns-clause-value c =
     ∙ ap (λ (v : SessionsView). map ssid_of v.sessions) c.self.view_is
 
 pub returns-clause-sessions : goal.returns-clause-sessions
-returns-clause-sessions c = subst (λ (v : SessionsView). AreSessions v.sessions) c.self.view_is (are_sessions _ _ c.self.invariant)
+returns-clause-sessions c = subst (λ (v : SessionsView). AreOpenSessions v.sessions) c.self.view_is (are_sessions _ _ c.self.invariant)
+
+pub returns-clause-count : goal.returns-clause-count
+returns-clause-count c = ap (λ (xs : List Ssid). length xs) (c.deref.ensures.value) ∙ count_listed _ _ c.self.invariant ∙ ap (λ (v : SessionsView). length v.sessions) c.self.view_is

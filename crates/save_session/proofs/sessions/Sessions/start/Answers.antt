@@ -1,10 +1,12 @@
-use Rattle.std.proofs.Common.{◌≡◌, ◌∙◌, Err, List, None, Ok, Result, ap, subst, sym, ℕ}
+use Rattle.std.proofs.Common.{◌≡◌, ◌∙◌, Err, List, None, Ok, Option, Result, ap, subst, sym, ℕ}
+use Rattle.std.specs.Option.{is_some}
 use Rattle.std.specs.Ordering.{nat_cmp}
+use Rattle.std.proofs.lemmas.Bool.{true≢false}
 use Rattle.room_base.specs.declared.numbers.Ssid.{Ssid}
 use Rattle.room_base.specs.Ordered.{IsPlace}
 use Rattle.save_session.specs.Kept.{number_of}
 use Rattle.save_session.specs.Sessions.{SessionsView, SessionView, find_session}
-use Rattle.save_session.proofs.Keeping.{is_open, kept_started, others_started, views_started}
+use Rattle.save_session.proofs.Keeping.{kept_started, open_at, others_started, place_in_views, views_started}
 use Rattle.save_session.proofs.sessions.Sessions.start.Goals as goal
 
 pub invariant_of-self-in-Err : goal.invariant_of-self-in-Err
@@ -40,4 +42,6 @@ returns-in_default-clause-ok c =
     let ssid = c.args.head.ssid in
     let at = c.in_default.field-0 in
     let place = subst (λ (xs : List Ssid). IsPlace nat_cmp number_of ssid.0 xs (Ok at)) (c.deref.ensures.value ∙ c.in_ok-reserve.ensures.items) c.in_default.ensures in
-    absurd (is_open _ _ c.self.invariant ssid at place (subst (λ (v : SessionsView). find_session ssid.0 v.sessions ≡ None) (sym c.self.view_is) c.requires.new))
+    let none = subst (λ (v : SessionsView). find_session ssid.0 v.sessions ≡ None) (sym c.self.view_is) c.requires.new in
+    let there = place_in_views _ _ c.self.invariant ssid.0 (Ok at) place in
+    absurd (true≢false (open_at _ _ c.self.invariant ssid.0 (Ok at) there ∙ ap (λ (found : Option SessionView). is_some found) none))

@@ -1,7 +1,7 @@
 use Rattle.std.proofs.Common.{◌≡◌, ◌+◌, ◌≤◌, ◌^◌, ◌∙◌, ap, sym, subst, length}
 use Rattle.room_base.specs.declared.numbers.Ssid.{Ssid}
 use Rattle.save_session.specs.declared.session.Session.{Session}
-use Rattle.save_session.specs.Kept.{ssid_in, view_of, views_of}
+use Rattle.save_session.specs.Kept.{ssid_in, session_view, sessions_view}
 use Rattle.save_session.specs.Sessions.{SessionsView, SessionView, FollowsPiece, PartRoom, with_piece}
 use Rattle.save_session.proofs.Keeping.{changed_views, found_in_value, found_there, kept_after, kept_there, place_of_value, same_rooms, same_value}
 use Rattle.save_session.proofs.Views.{of_some, on_err, on_ok, to_some}
@@ -12,8 +12,8 @@ take-requires-clause-size c =
     let k = c.args.ssid.0 in
     let old = c.index_mut-session.result.now in
     let place = place_of_value k _ _ c.self.view_is c.place-at.result c.place-at.ensures.place in
-    let found = found_in_value k _ _ c.self.view_is (view_of old) (found_there _ _ c.self.invariant k c.place-at.result place old c.index_mut-session.ensures.value) in
-    of_some (λ (session : SessionView). session.reading.read + length c.args.piece.now ≤ 2 ^ 36) _ (view_of old) found c.requires.size
+    let found = found_in_value k _ _ c.self.view_is (session_view old) (found_there _ _ c.self.invariant k c.place-at.result place old c.index_mut-session.ensures.value) in
+    of_some (λ (session : SessionView). session.reading.read + length c.args.piece.now ≤ 2 ^ 36) _ (session_view old) found c.requires.size
 
 pub invariant_of-self : goal.invariant_of-self
 invariant_of-self c =
@@ -27,8 +27,8 @@ returns-clause-read c =
     let k = c.args.ssid.0 in
     let old = c.index_mut-session.result.now in
     let place = place_of_value k _ _ c.self.view_is c.place-at.result c.place-at.ensures.place in
-    let found = found_in_value k _ _ c.self.view_is (view_of old) (found_there _ _ c.self.invariant k c.place-at.result place old c.index_mut-session.ensures.value) in
-    to_some (λ (session : SessionView). FollowsPiece c.args.piece.now session c.take.result) _ (view_of old) found c.take.ensures.read
+    let found = found_in_value k _ _ c.self.view_is (session_view old) (found_there _ _ c.self.invariant k c.place-at.result place old c.index_mut-session.ensures.value) in
+    to_some (λ (session : SessionView). FollowsPiece c.args.piece.now session c.take.result) _ (session_view old) found c.take.ensures.read
 
 pub returns-clause-ok : goal.returns-clause-ok
 returns-clause-ok c =
@@ -44,7 +44,7 @@ pub returns-clause-err : goal.returns-clause-err
 returns-clause-err c =
     let old = c.index_mut-session.result.now in
     rw (← c.self.view_is)
-    (on_err c.take.result (λ (same : c.take.new.self ≡ old). same_value _ c.place-at.result old c.index_mut-session.ensures.value c.take.new.self (ap view_of same) c.take.ensures.room) c.take.ensures.err)
+    (on_err c.take.result (λ (same : c.take.new.self ≡ old). same_value _ c.place-at.result old c.index_mut-session.ensures.value c.take.new.self (ap session_view same) c.take.ensures.room) c.take.ensures.err)
 
 pub returns-clause-rooms : goal.returns-clause-rooms
 returns-clause-rooms c =
