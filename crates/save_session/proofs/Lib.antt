@@ -1,3 +1,4 @@
+pub mod Heading
 pub mod Keeping
 pub mod Leaving
 pub mod Placing

@@ -38,6 +38,12 @@ pub fn ended_sessions_are_whole()
         × (digest_of session ≡ Some fields.digest) }
 {}
 
+/// A session's reader has the session's head.
+pub fn readers_have_the_head()
+    ensures { (session : SessionView) → IsSession session
+        → session.reading.head ≡ Some session.head }
+{}
+
 /// Bytes repeat what was sent where they end no further, and else are new where they begin at its
 /// end.
 pub fn checks_are_exact()

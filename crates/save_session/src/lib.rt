@@ -13,7 +13,7 @@ pub use checked::Checked;
 pub use laws::{
     checks_are_exact, ended_sessions_are_whole, found_after_a_change, found_after_a_close,
     found_after_a_drive_was_left, found_after_a_start, found_is_a_session, pieces_join,
-    sections_are_the_longest_runs, sessions_stay,
+    readers_have_the_head, sections_are_the_longest_runs, sessions_stay,
 };
 pub use sessions::Sessions;
 

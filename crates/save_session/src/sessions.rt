@@ -1,10 +1,11 @@
 ghost use Rattle.std.specs.Prelude.{◌≡◌, ℕ, ◌+◌, ◌<◌, ◌≤◌, ◌^◌, [], length, map, OnOk, OnErr, IfSome};
-ghost use Rattle.std.specs.Prelude.{Ok, Some, None};
+ghost use Rattle.std.specs.Prelude.{Ok, Some, None, true};
 ghost use Rattle.std.specs.List.{AllByRecursion};
 ghost use Rattle.std.specs.Option.{is_some};
 ghost use Rattle.std.specs.Ordering.{nat_cmp};
 ghost use Rattle.room_base.specs.Ordered.{Ascends, IsPlace};
-ghost use Rattle.save_stream.specs.Spelling.{IsHead};
+ghost use Rattle.save_stream.specs.Fields.{IsIndex};
+ghost use Rattle.save_stream.specs.Spelling.{IsHead, PathsAscend};
 ghost use Rattle.save_session.specs.Kept.{IsSessionKept, left_by, number_of, session_view};
 ghost use Rattle.save_session.specs.Parts.{IsNextPart};
 ghost use Rattle.save_session.specs.Sessions.{AreOpenSessions, FollowsPiece, IsOpen, KeepsOtherRooms};
@@ -17,7 +18,7 @@ use crate::Checked;
 use crate::session::Session;
 use media_db::Section;
 use room_base::{Memory, Ssid, insert_in_room};
-use save_stream::{SetHead, StreamFault, StreamReader};
+use save_stream::{IndexEntry, SetHead, StreamFault, StreamReader};
 use std::alloc::Global;
 use std::marker::Model;
 
@@ -207,6 +208,24 @@ impl Sessions {
         let at = self.place(ssid);
         self.ssids.remove(at);
         self.sessions.remove(at);
+    }
+
+    /// Ends a session whose stream has ended, and hands its index over. Takes no memory.
+    pub fn finish(&mut self, ssid: Ssid) -> Vec<IndexEntry>
+        requires open { IsOpen ssid.0 self.old.sessions }
+        requires ended { IfSome (find_session ssid.0 self.old.sessions)
+            (λ session. session.reading.ended ≡ true) }
+        ensures value { of_session (λ session. session.reading.entries) ssid.0 self.old.sessions
+            ≡ Some result.items }
+        ensures order { PathsAscend result.items }
+        ensures index { IsIndex result.items }
+        ensures sessions { self.new.sessions ≡ close_session ssid.0 self.old.sessions }
+        ensures rooms { KeepsOtherRooms ssid.0 self.old.rooms self.new.rooms }
+    {
+        let at = self.place(ssid);
+        self.ssids.remove(at);
+        let session = self.sessions.remove(at);
+        session.reader.into_entries()
     }
 
     // Where an open session stands.

@@ -5,7 +5,7 @@ ghost use Rattle.save_session.specs.Parts.{IsNextPart};
 use super::*;
 use media_db::Section;
 use room_base::{Memory, Ssid, Volid};
-use save_stream::{EntryKind, SetHead, StreamFault, StreamReader, read_head};
+use save_stream::{EntryKind, IndexEntry, SetHead, StreamFault, StreamReader, read_head};
 use std::alloc::Global;
 use std::test::*;
 
@@ -102,6 +102,14 @@ fn closed(sessions: &mut Sessions, ssid: Ssid) -> bool {
     true
 }
 
+// The index of a session whose stream has ended, and which ends with it.
+fn finished(sessions: &mut Sessions, ssid: Ssid) -> Option<Vec<IndexEntry>> {
+    if !sessions.is_open(ssid) || !sessions.reader(ssid).ended() {
+        return None;
+    }
+    Some(sessions.finish(ssid))
+}
+
 // A session has sent so many bytes, which have this digest, if its stream has ended.
 fn has_sent(sessions: &Sessions, ssid: Ssid, next: u64, digest: Option<[u8; 32]>) -> bool {
     sessions.is_open(ssid) && sessions.next(ssid) == next && sessions.digest(ssid) == digest
@@ -117,15 +125,18 @@ fn has_read_both(sessions: &Sessions, ssid: Ssid) -> bool {
 
 // The reader has read alpha's head and the two files.
 fn has_both(reader: &StreamReader) -> bool {
-    match reader.entries() {
+    reader.ended() && reader.read() == 139 && has_files(reader.entries(), 96, 127)
+}
+
+// The entries of the two files, whose bytes begin at these places.
+fn has_files(entries: &[IndexEntry], first: u64, second: u64) -> bool {
+    match entries {
         [one, other] => {
-            reader.ended()
-                && reader.read() == 139
-                && one.kind == EntryKind::File
+            one.kind == EntryKind::File
                 && one.path.as_bytes() == b"/home/a".as_slice()
-                && (one.size, one.place) == (5, 96)
+                && (one.size, one.place) == (5, first)
                 && other.path.as_bytes() == b"/home/b".as_slice()
-                && (other.size, other.place) == (3, 127)
+                && (other.size, other.place) == (3, second)
         }
         _ => false,
     }
@@ -199,6 +210,9 @@ fn two_sessions_interleave(rt: HostRuntime) -> Result<(), Fail> {
     assert!(rt; closed(&mut sessions, Ssid(1)));
     assert_eq!(rt; sessions.ssids(), [Ssid(2)].as_slice());
     assert!(rt; has_sent(&sessions, Ssid(2), 69, Some(DIGEST)));
+    let index = finished(&mut sessions, Ssid(2));
+    assert!(rt; matches!(&index, Some(entries) if has_files(entries, 95, 126)));
+    assert!(rt; sessions.ssids().is_empty());
     Ok(())
 }
 
