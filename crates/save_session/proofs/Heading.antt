@@ -1,5 +1,5 @@
 -- The reader of a session has the session's head.
-use Rattle.std.proofs.Common.{◌≡◌, List, ◌++◌, length, Option, Some, None, Ok, refl, sym, ap, ◌∙◌}
+use Rattle.std.proofs.Common.{◌≡◌, ◌++◌, length, Option, Some, None, refl, sym, ap, ◌∙◌}
 use Rattle.std.specs.Prelude.{replicate}
 use Rattle.std.proofs.lemmas.List.{append_assoc, length-replicate}
 use Rattle.save_stream.specs.declared.head.SetHead.{SetHead}

@@ -1,5 +1,5 @@
 -- What the program keeps of the open sessions, and what its updates make of that.
-use Rattle.std.proofs.Common.{◌≡◌, ◌≢◌, ℕ, ◌<◌, List, [], ◌∷◌, ◌++◌, length, get_or, set, map, take, drop, cond, Option, Some, None, Result, Ok, Err, refl, sym, ap, subst, ◌∙◌, arith}
+use Rattle.std.proofs.Common.{◌≡◌, ℕ, ◌<◌, List, [], ◌∷◌, ◌++◌, length, get_or, set, map, take, drop, Option, Some, None, Result, Ok, Err, refl, sym, ap, subst, ◌∙◌, arith}
 use Rattle.std.specs.List.{AllByRecursion, insert, remove}
 use Rattle.std.specs.Option.{is_some}
 use Rattle.std.specs.Result.{is_ok}
@@ -11,8 +11,8 @@ use Rattle.std.proofs.lemmas.List.{append-nil, length-map, map-set, take_all}
 use Rattle.std.proofs.Math.ListN.{drop_of_length-le, get_or-map}
 use Rattle.std.proofs.Math.Seq.{map-set_same}
 use Rattle.room_base.specs.declared.numbers.Ssid.{Ssid}
-use Rattle.room_base.specs.Ordered.{Ascends, IsPlace, put_by, remove_by}
-use Rattle.room_base.proofs.OrderedLaws.{found_put, found_removed, each_found}
+use Rattle.room_base.specs.Ordered.{Ascends, IsPlace, put_by}
+use Rattle.room_base.proofs.OrderedLaws.{found_put, found_removed}
 use Rattle.room_base.proofs.OrderedNumbers.{equal_numbers, other_number, same_number}
 use Rattle.room_base.proofs.OrderedSearch.{found_at, found_read, none_at}
 use Rattle.room_base.proofs.OrderedUpdates.{ascends_put, ascends_removed, put_at, put_between, removed_at, updated_at}
@@ -38,9 +38,9 @@ views_each : (sessions : List Session) → AllByRecursion IsSessionKept sessions
 views_each [] each = tt
 views_each (session ∷ sessions) each = (each.0.is, views_each sessions each.1)
 
-numbers_in : (sessions : List Session) → map number_of (map ssid_in sessions) ≡ map ssid_of (map session_view sessions)
-numbers_in [] = refl
-numbers_in (session ∷ sessions) = ap (λ rest. session.text.head.ssid.0 ∷ rest) (numbers_in sessions)
+ssids_in : (sessions : List Session) → map ssid_in sessions ≡ map (λ (v : SessionView). v.head.ssid) (map session_view sessions)
+ssids_in [] = refl
+ssids_in (session ∷ sessions) = ap (λ rest. ssid_in session ∷ rest) (ssids_in sessions)
 
 module _ (ssids : List Ssid) (sessions : List Session) (kept : AreSessionsKept ssids sessions) where
   abbrev views : List SessionView
@@ -61,8 +61,8 @@ module _ (ssids : List Ssid) (sessions : List Session) (kept : AreSessionsKept s
   pub are_sessions : AreOpenSessions views
   are_sessions = record { ascending = views_ascend; each = views_each sessions kept.each }
 
-  pub numbers_listed : map number_of ssids ≡ map ssid_of views
-  numbers_listed = ap (λ (xs : List Ssid). map number_of xs) kept.listed ∙ numbers_in sessions
+  pub ssids_listed : ssids ≡ map (λ (v : SessionView). v.head.ssid) views
+  ssids_listed = kept.listed ∙ ssids_in sessions
 
   pub count_listed : length ssids ≡ length views
   count_listed = ap (λ (xs : List Ssid). length xs) kept.listed ∙ length-map sessions ssid_in ∙ sym (length-map sessions session_view)

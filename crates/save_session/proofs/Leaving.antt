@@ -1,15 +1,13 @@
 -- What changes of the open sessions leave.
-use Rattle.std.proofs.Common.{◌≡◌, ℕ, Bool, true, false, List, [], ◌∷◌, Option, Some, None, cond, eqb, map, refl, sym, ap, subst, ◌∙◌, inl, inr}
+use Rattle.std.proofs.Common.{◌≡◌, ℕ, Bool, true, false, List, [], ◌∷◌, Option, Some, None, cond, map, refl, sym, ap, subst}
 use Rattle.std.specs.List.{AllByRecursion}
 use Rattle.std.specs.Option.{option_map}
 use Rattle.std.specs.Ordering.{nat_cmp, eq_by_cmp}
-use Rattle.std.specs.declared.cmp.Ordering.TheVariants.{Less}
-use Rattle.std.proofs.lemmas.Bool.{cond-true, cond-false, cond_both, true≢false}
 use Rattle.std.proofs.lemmas.Cmp.{nat_cmp_total}
-use Rattle.room_base.specs.Ordered.{Ascends, update_by}
-use Rattle.room_base.proofs.OrderedLaws.{each_found, first_or_behind}
+use Rattle.room_base.specs.Ordered.{Ascends}
+use Rattle.room_base.proofs.OrderedLaws.{each_found}
 use Rattle.room_base.proofs.OrderedUpdates.{ascends_updated}
-use Rattle.save_session.specs.Sessions.{SessionView, AreOpenSessions, IsSession, change_session, drive_after, find_session, is_on, leave_drive, off_drive, ssid_of}
+use Rattle.save_session.specs.Sessions.{SessionView, AreOpenSessions, IsSession, change_session, find_session, is_on, leave_drive, off_drive, ssid_of}
 use Rattle.save_session.proofs.Sending.{off_is}
 use Rattle.save_session.proofs.Views.{ascends_by}
 

@@ -1,5 +1,5 @@
 -- What a part makes of sections.
-use Rattle.std.proofs.Common.{◌≡◌, ℕ, zero, suc, ◌-◌, ◌<◌, ◌≤◌, Bool, true, false, List, [], ◌∷◌, ◌++◌, length, get_or, set, cond, refl, sym, ap, subst, ◌∙◌, arith}
+use Rattle.std.proofs.Common.{◌≡◌, ℕ, suc, ◌-◌, ◌<◌, ◌≤◌, Bool, true, false, List, [], ◌∷◌, ◌++◌, length, get_or, set, cond, refl, sym, ap, ◌∙◌, arith}
 use Rattle.std.proofs.lemmas.Bool.{cond-true, cond-false, true≢false}
 use Rattle.media_db.specs.declared.copies.Section.{Section}
 use Rattle.save_session.specs.Parts.{IsSection, AreSectionsFrom, end_from, end_in_file_of, is_same_file, last_block, lengthened, lengthen_last, with_part}

@@ -1,11 +1,11 @@
 -- Sections that parts were added to are the longest runs of these parts.
-use Rattle.std.proofs.Common.{◌≡◌, ◌⊎◌, ℕ, ◌≤◌, Bool, true, false, List, [], ◌∷◌, ◌++◌, cond, refl, sym, ap, subst, ◌∙◌, inl, inr, arith}
+use Rattle.std.proofs.Common.{◌≡◌, ℕ, ◌≤◌, Bool, true, false, List, [], ◌∷◌, ◌++◌, cond, refl, sym, ap, subst, ◌∙◌, inl, inr, arith}
 use Rattle.std.specs.List.{AllByRecursion}
 use Rattle.std.proofs.lemmas.Bool.Decides.{nat_tests}
 use Rattle.std.proofs.lemmas.List.{append-nil, append_assoc}
 use Rattle.media_db.specs.declared.copies.Section.{Section}
 use Rattle.room_base.proofs.OrderedLaws.{each_weaker}
-use Rattle.save_session.specs.Parts.{IsNextPart, IsSection, AreSections, AreSectionsFrom, end_from, end_in_file_of, is_same_file, last_block, lengthened, lengthen_last, with_part}
+use Rattle.save_session.specs.Parts.{IsSection, AreSections, AreSectionsFrom, end_from, end_in_file_of, is_same_file, last_block, lengthened, lengthen_last, with_part}
 use Rattle.save_session.specs.Runs.{ApartFrom, AreLongestRuns, IsRunOf, MayFollow, OneHas, with_parts}
 use Rattle.save_session.proofs.Placing.{one_more_ends, one_more_follows, part_follows}
 

@@ -46,4 +46,5 @@ pub record AreSessionsKept (ssids : List Ssid) (sessions : List Session) : Type 
   pub each : AllByRecursion IsSessionKept sessions
 
 abbrev pub sessions_view : List Session → SessionsView
-sessions_view sessions = record { sessions = map session_view sessions; rooms = map room_of sessions }
+sessions_view sessions =
+    record { sessions = map session_view sessions; rooms = map room_of sessions }

@@ -1,5 +1,5 @@
 -- What the sections of parts are: the longest runs that lie in one file of one volume.
-use Rattle.std.specs.Prelude.{◌≡◌, ◌⊎◌, ℕ, ◌≤◌, true, false, List, [], ◌∷◌, ◌++◌}
+use Rattle.std.specs.Prelude.{◌≡◌, ◌⊎◌, ◌≤◌, true, false, List, [], ◌∷◌, ◌++◌}
 use Rattle.std.specs.List.{AllByRecursion}
 use Rattle.media_db.specs.declared.copies.Section.{Section}
 use Rattle.save_session.specs.Parts.{IsNextPart, AreSectionsFrom, end_from, is_same_file, with_part}

@@ -1,5 +1,5 @@
 -- The open sessions, in the order of their ssids.
-use Rattle.std.specs.Prelude.{◌≡◌, ◌≢◌, ℕ, ◌+◌, ◌≤◌, ◌==◌, Bool, true, false, List, [], ◌∷◌, ◌++◌}
+use Rattle.std.specs.Prelude.{◌≡◌, ◌≢◌, ℕ, ◌+◌, ◌≤◌, ◌==◌, Bool, false, List, [], ◌∷◌, ◌++◌}
 use Rattle.std.specs.Prelude.{length, map, nat_le, Option, Some, None, IsSome, Result, Ok, Err}
 use Rattle.std.specs.Prelude.{if◌then◌else◌}
 use Rattle.std.specs.List.{AllByRecursion}
@@ -88,7 +88,8 @@ check_sent next offset size =
     if nat_le (offset + size) next then checks.Repeat next
     else (if offset == next then checks.New else checks.Gap next)
 
--- The head is allowed, the reader has read it and the bytes sent, and the sections follow each other.
+-- The head is allowed, the reader has read it and the bytes sent, and the sections follow each
+-- other.
 pub record IsSession (session : SessionView) : Type 0 where
   pub allowed : IsHead session.head
   pub bytes : AreBytes session.sent

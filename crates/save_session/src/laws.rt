@@ -1,6 +1,6 @@
 //! Laws of sessions: each function has an empty body, and its contract is the law.
 
-ghost use Rattle.std.specs.Prelude.{◌≡◌, ◌≢◌, ◌↔◌, ◌⊎◌, ℕ, ◌+◌, ◌<◌, ◌≤◌, true, false, List, [], ◌++◌};
+ghost use Rattle.std.specs.Prelude.{◌≡◌, ◌≢◌, ◌↔◌, ℕ, ◌+◌, ◌<◌, ◌≤◌, true, false, List, [], ◌++◌};
 ghost use Rattle.std.specs.Prelude.{length, Ok, Some, None};
 ghost use Rattle.std.specs.List.{AllByRecursion, flat_map};
 ghost use Rattle.std.specs.Option.{option_map};
@@ -13,8 +13,8 @@ ghost use Rattle.media_db.specs.declared.copies.Section.{Section};
 ghost use Rattle.save_session.specs.declared.checked.Checked.TheVariants.{New, Repeat, Gap};
 ghost use Rattle.save_session.specs.Parts.{IsNextPart, AreSections};
 ghost use Rattle.save_session.specs.Runs.{AreLongestRuns, MayFollow, with_parts};
-ghost use Rattle.save_session.specs.Sessions.{AreOpenSessions, IsSession, SessionView, change_session};
-ghost use Rattle.save_session.specs.Sessions.{check_sent, close_session, digest_of, find_session};
+ghost use Rattle.save_session.specs.Sessions.{AreOpenSessions, IsSession, SessionView};
+ghost use Rattle.save_session.specs.Sessions.{change_session, check_sent, close_session, digest_of, find_session};
 ghost use Rattle.save_session.specs.Sessions.{is_on, leave_drive, off_drive, placed_on, ssid_of};
 ghost use Rattle.save_session.specs.Sessions.{start_session, started, with_piece, with_pieces};
 
@@ -57,11 +57,13 @@ pub fn checks_are_exact()
         ↔ ((next < offset + size) × (offset ≢ next) × (number ≡ next)) }
 {}
 
-/// Sections that grew by parts, which followed one another, follow each other, and are the longest
-/// runs of these parts that lie in one file of one volume.
+/// Sections that grew by parts, each of which might follow those before it, follow each other, and
+/// are the longest runs of these parts that lie in one file of one volume.
 pub fn sections_are_the_longest_runs()
-    ensures runs { (parts : List Section) → MayFollow parts [] → AreLongestRuns (with_parts parts []) parts }
-    ensures sections { (parts : List Section) → MayFollow parts [] → AreSections (with_parts parts []) }
+    ensures runs { (parts : List Section) → MayFollow parts []
+        → AreLongestRuns (with_parts parts []) parts }
+    ensures sections { (parts : List Section) → MayFollow parts []
+        → AreSections (with_parts parts []) }
 {}
 
 /// What is found among sessions has the ssid, and is a session.

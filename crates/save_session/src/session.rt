@@ -51,7 +51,8 @@ impl Session {
         requires kept { IsSessionKept self.old }
         requires size { self.old.reader.read + length piece.now ≤ 2 ^ 36 }
         ensures read { FollowsPiece piece.now (session_view self.old) result }
-        ensures ok { OnOk result (session_view self.new ≡ with_piece piece.now (session_view self.old)) }
+        ensures ok { OnOk result
+            (session_view self.new ≡ with_piece piece.now (session_view self.old)) }
         ensures err { OnErr result (self.new ≡ self.old) }
         ensures kept { IsSessionKept self.new }
         ensures room { room_of self.new ≡ room_of self.old }

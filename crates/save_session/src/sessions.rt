@@ -1,6 +1,5 @@
-ghost use Rattle.std.specs.Prelude.{◌≡◌, ℕ, ◌+◌, ◌<◌, ◌≤◌, ◌^◌, [], length, map, OnOk, OnErr, IfSome};
+ghost use Rattle.std.specs.Prelude.{◌≡◌, ◌+◌, ◌<◌, ◌≤◌, ◌^◌, [], length, map, OnOk, OnErr, IfSome};
 ghost use Rattle.std.specs.Prelude.{Ok, Some, None, true};
-ghost use Rattle.std.specs.List.{AllByRecursion};
 ghost use Rattle.std.specs.Option.{is_some};
 ghost use Rattle.std.specs.Ordering.{nat_cmp};
 ghost use Rattle.room_base.specs.Ordered.{Ascends, IsPlace};
@@ -8,8 +7,8 @@ ghost use Rattle.save_stream.specs.Fields.{IsIndex};
 ghost use Rattle.save_stream.specs.Spelling.{IsHead, PathsAscend};
 ghost use Rattle.save_session.specs.Kept.{IsSessionKept, left_by, number_of, session_view};
 ghost use Rattle.save_session.specs.Parts.{IsNextPart};
-ghost use Rattle.save_session.specs.Sessions.{AreOpenSessions, FollowsPiece, IsOpen, KeepsOtherRooms};
-ghost use Rattle.save_session.specs.Sessions.{IsSession, SessionView, change_session, check_open};
+ghost use Rattle.save_session.specs.Sessions.{AreOpenSessions, FollowsPiece, IsOpen, IsSession};
+ghost use Rattle.save_session.specs.Sessions.{KeepsOtherRooms, change_session, check_open};
 ghost use Rattle.save_session.specs.Sessions.{close_session, digest_of, find_session, leave_drive};
 ghost use Rattle.save_session.specs.Sessions.{of_session, placed_on, room_for, ssid_of};
 ghost use Rattle.save_session.specs.Sessions.{start_session, with_piece};
@@ -76,7 +75,7 @@ impl Sessions {
 
     /// The ssids of the open sessions, ascending.
     pub fn ssids(&self) -> &[Ssid]
-        ensures value { map number_of result.now ≡ map ssid_of self.now.sessions }
+        ensures value { result.now ≡ map (λ session. session.head.ssid) self.now.sessions }
         ensures count { length result.now ≡ length self.now.sessions }
         ensures sessions { AreOpenSessions self.now.sessions }
     {

@@ -1,6 +1,5 @@
 use Rattle.std.proofs.Common.{sym, ap, ◌∙◌, ◌-◌, ◌≡◌, length}
-use Rattle.media_db.specs.declared.copies.Section.{Section}
-use Rattle.save_session.specs.Parts.{end_in_file_of, lengthened}
+use Rattle.save_session.specs.Parts.{end_in_file_of}
 use Rattle.save_session.proofs.Placing.{part_joins}
 use Rattle.save_session.proofs.session.add_part.Goals as goal
 

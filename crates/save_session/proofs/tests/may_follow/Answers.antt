@@ -1,4 +1,4 @@
-use Rattle.std.proofs.Common.{◌≤◌, arith, sym}
+use Rattle.std.proofs.Common.{◌≤◌, arith}
 use Rattle.std.proofs.lemmas.Bool.Decides.{nat_tests}
 use Rattle.save_session.proofs.Placing.{last_ends, last_has_last_block}
 use Rattle.save_session.proofs.tests.may_follow.Goals as goal

@@ -1,7 +1,6 @@
-use Rattle.std.proofs.Common.{arith, ap, ◌∙◌, sym, length}
+use Rattle.std.proofs.Common.{arith}
 use Rattle.std.proofs.lemmas.List.{length-append}
 use Rattle.save_session.specs.Kept.{session_view}
-use Rattle.save_session.specs.Sessions.{IsSession}
 use Rattle.save_session.proofs.Sending.{piece_is}
 use Rattle.save_session.proofs.session.Session.take.Goals as goal
 

@@ -1,8 +1,3 @@
-use Rattle.std.proofs.Common.{◌≡◌, ◌∙◌, ap, sym, subst}
-use Rattle.std.proofs.Common.{map}
-use Rattle.save_session.specs.declared.session.Session.{Session}
-use Rattle.save_session.specs.Kept.{room_of, session_view}
-use Rattle.save_session.specs.Sessions.{KeepsOtherRooms}
 use Rattle.save_session.proofs.Keeping.{kept_closed, others_closed, place_of_value, views_closed}
 use Rattle.save_session.proofs.sessions.Sessions.close.Goals as goal
 

@@ -3,7 +3,7 @@ use Rattle.std.specs.Option.{is_some}
 use Rattle.std.specs.Ordering.{nat_cmp}
 use Rattle.std.specs.Result.{is_ok}
 use Rattle.room_base.specs.declared.numbers.Ssid.{Ssid}
-use Rattle.room_base.specs.Ordered.{Ascends, IsPlace}
+use Rattle.room_base.specs.Ordered.{IsPlace}
 use Rattle.save_session.specs.Kept.{number_of}
 use Rattle.save_session.specs.Sessions.{SessionsView, find_session}
 use Rattle.save_session.proofs.Keeping.{open_at, place_in_views}

@@ -1,14 +1,9 @@
-use Rattle.std.proofs.Common.{◌≡◌, ℕ, List, Option, None, Result, Ok, Err, IsSome, refl, sym, subst, ap, ◌∙◌}
-use Rattle.std.specs.Option.{is_some}
-use Rattle.std.specs.Prelude.{IsOk}
+use Rattle.std.proofs.Common.{ℕ, List, Result, Ok, sym, subst, ◌∙◌}
 use Rattle.std.specs.Ordering.{nat_cmp}
-use Rattle.std.proofs.lemmas.Bool.{true≢false}
-use Rattle.std.proofs.lemmas.Cmp.{nat_cmp_total}
 use Rattle.room_base.specs.declared.numbers.Ssid.{Ssid}
 use Rattle.room_base.specs.Ordered.{Ascends, IsPlace}
-use Rattle.room_base.proofs.OrderedSearch.{none_at}
 use Rattle.save_session.specs.Kept.{number_of}
-use Rattle.save_session.specs.Sessions.{SessionsView, SessionView, IsOpen, find_session, ssid_of}
+use Rattle.save_session.specs.Sessions.{SessionsView, IsOpen, ssid_of}
 use Rattle.save_session.proofs.Keeping.{open_at, place_in_views}
 use Rattle.save_session.proofs.sessions.Sessions.place.Goals as goal
 

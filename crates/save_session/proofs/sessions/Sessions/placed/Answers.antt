@@ -1,6 +1,5 @@
-use Rattle.std.proofs.Common.{◌≡◌, ◌<◌, ◌∙◌, ap, sym, subst, arith}
-use Rattle.save_session.specs.declared.session.Session.{Session}
-use Rattle.save_session.specs.Kept.{room_of, session_view, sessions_view}
+use Rattle.std.proofs.Common.{◌<◌, ap, sym, subst, arith}
+use Rattle.save_session.specs.Kept.{session_view}
 use Rattle.save_session.specs.Parts.{IsNextPart}
 use Rattle.save_session.specs.Sessions.{SessionsView, SessionView, placed_on, room_for}
 use Rattle.save_session.proofs.Keeping.{changed_views, found_in_value, found_there, kept_after, others_after, place_of_value, room_after, room_there}

@@ -1,6 +1,5 @@
-use Rattle.std.proofs.Common.{◌≡◌, ◌<◌, ◌∙◌, ap, sym, subst, arith}
-use Rattle.save_session.specs.declared.session.Session.{Session}
-use Rattle.save_session.specs.Kept.{room_of, ssid_in, session_view}
+use Rattle.std.proofs.Common.{◌<◌, ap}
+use Rattle.save_session.specs.Kept.{room_of}
 use Rattle.save_session.specs.Sessions.{SessionView}
 use Rattle.save_session.proofs.Keeping.{kept_after, others_after, place_of_value, room_after, room_there, same_views}
 use Rattle.save_session.proofs.Views.{on_ok}

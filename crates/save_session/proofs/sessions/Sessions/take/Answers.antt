@@ -1,9 +1,7 @@
-use Rattle.std.proofs.Common.{◌≡◌, ◌+◌, ◌≤◌, ◌^◌, ◌∙◌, ap, sym, subst, length}
-use Rattle.room_base.specs.declared.numbers.Ssid.{Ssid}
-use Rattle.save_session.specs.declared.session.Session.{Session}
-use Rattle.save_session.specs.Kept.{ssid_in, session_view, sessions_view}
-use Rattle.save_session.specs.Sessions.{SessionsView, SessionView, FollowsPiece, PartRoom, with_piece}
-use Rattle.save_session.proofs.Keeping.{changed_views, found_in_value, found_there, kept_after, kept_there, place_of_value, same_rooms, same_value}
+use Rattle.std.proofs.Common.{◌≡◌, ◌+◌, ◌≤◌, ◌^◌, ap, length}
+use Rattle.save_session.specs.Kept.{session_view}
+use Rattle.save_session.specs.Sessions.{SessionView, FollowsPiece, PartRoom, with_piece}
+use Rattle.save_session.proofs.Keeping.{changed_views, found_in_value, found_there, kept_after, place_of_value, same_rooms, same_value}
 use Rattle.save_session.proofs.Views.{of_some, on_err, on_ok, to_some}
 use Rattle.save_session.proofs.sessions.Sessions.take.Goals as goal
 
