@@ -1,13 +1,11 @@
 -- Which changes are allowed by themselves, whatever the catalogue is that they change.
-use Rattle.std.specs.Prelude.{◌≡◌, ◌⊎◌, ℕ, ◌≤◌, ◌<◌, ◌^◌, List, [], ◌∷◌, length}
+use Rattle.std.specs.Prelude.{◌≡◌, ℕ, ◌≤◌, ◌<◌, ◌^◌, List, [], ◌∷◌, length}
 use Rattle.std.specs.List.{AllByRecursion}
 use Rattle.std.specs.Ordering.{nat_cmp}
-use Rattle.room_base.specs.Numbers.{max_moment}
 use Rattle.room_base.specs.Ordered.{Ascends}
 use Rattle.room_base.specs.Text.{HasLength, IsPathText}
 use Rattle.room_base.specs.declared.numbers.Cart.{Cart}
 use Rattle.room_base.specs.declared.numbers.Ssid.{Ssid}
-use Rattle.room_base.specs.declared.numbers.Volid.{Volid}
 use Rattle.media_db.specs.declared.copies.Section.{Section}
 use Rattle.save_stream.specs.declared.entry.EntryKind.{EntryKind}
 use Rattle.save_stream.specs.declared.entry.EntryKind.TheVariants as entries
