@@ -1,0 +1,5 @@
+pub mod Loops
+pub mod Steps
+pub mod Fields
+pub mod Lists
+pub mod Behind

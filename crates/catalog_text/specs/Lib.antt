@@ -1,0 +1,5 @@
+pub mod Reading
+pub mod Spelled
+pub mod Fields
+pub mod Lists
+pub mod Writing

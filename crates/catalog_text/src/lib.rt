@@ -1,0 +1,21 @@
+//! How changes of the catalogue are spelled as bytes: each in one spelling, which is read back with
+//! the first field that isn't allowed. The words for single fields and lists serve snapshots too.
+//! docs/formats.md has the bytes.
+#![tactic(auto)]
+
+mod fault;
+mod field;
+mod list;
+mod put;
+mod text;
+
+pub use fault::{DecodeFault, FieldFault};
+pub use field::{
+    allow, read_bytes, read_flag, read_moment, read_u8, read_u8_within, read_u16, read_u16_within,
+    read_u32, read_u32_within, read_u64, read_u64_within,
+};
+pub use list::{Format, read_items};
+pub use put::{
+    put_bytes, put_flag, put_long_text, put_text, put_u8, put_u16, put_u32, put_u64,
+};
+pub use text::{read_name, read_path, read_text};
