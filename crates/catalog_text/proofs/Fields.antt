@@ -1,6 +1,6 @@
 -- Single fields: what is read of each is what is spelled.
-use Rattle.std.proofs.Common.{◌≡◌, ℕ, zero, suc, ◌+◌, ◌≤◌, ◌<◌, ◌^◌, Bool, true, false, cond, eqb, nat_lt, nat_le, List, [], ◌∷◌, ◌++◌, length, take, drop, get_or, Option, Some, None, Ok, Err, refl, sym, ap, subst, ◌∙◌, arith, inl, inr}
-use Rattle.std.specs.Prelude.{◌&&◌, ◌⊎◌}
+use Rattle.std.proofs.Common.{◌≡◌, ℕ, zero, suc, ◌+◌, ◌≤◌, ◌<◌, ◌^◌, Bool, true, false, cond, eqb, nat_lt, nat_le, List, [], ◌∷◌, ◌++◌, length, take, drop, get_or, Option, Some, None, Ok, Err, refl, sym, ap, subst, ◌∙◌, eq-eqb, arith, inl, inr}
+use Rattle.std.specs.Prelude.{◌&&◌, ◌||◌, ◌⊎◌}
 use Rattle.std.specs.Int.{w16, w32, w64, from_be_bytes}
 use Rattle.std.specs.List.{AllByRecursion}
 use Rattle.std.proofs.lemmas.Bool.{cases_lt, lt-ltb, le-ltb, ltb-true, leb-true, le-leb, eqb-true, eqb-false}
@@ -18,8 +18,8 @@ use Rattle.save_stream.proofs.Again.{is_name-again, is_path-again, is_below-agai
 use Rattle.save_stream.proofs.Sound.{IsBytes-take, is_name-is, is_path-is, is_below-is, both-true}
 use Rattle.catalog_text.specs.Reading.{Part, ◌>>=◌, checked}
 use Rattle.catalog_text.specs.Spelled.{Took, StopsIn, Judged, Reads}
-use Rattle.catalog_text.specs.Fields.{number_bytes, number_at, byte_text, byte_at, bytes_at, is_within, number_within_at, byte_within_at, moment_at, coded, coded_part, code_at, flags, flag_byte, text_at, name_at, path_at}
-use Rattle.catalog_text.proofs.Steps.{Stands, begin, took, after, then-found, end-found, end-again, checked-reads, reads-as}
+use Rattle.catalog_text.specs.Fields.{number_bytes, number_at, byte_text, byte_at, bytes_at, is_within, number_within_at, byte_within_at, number_from_at, number_above_at, given_number_at, number_if_at, moment_at, coded, coded_part, code_at, flags, flag_byte, text_at, name_at, path_at}
+use Rattle.catalog_text.proofs.Steps.{Stands, start, begin, took, after, then-found, end-found, end-again, checked-reads, reads-as}
 
 AreBytes-drop : (n : ℕ) (bytes : List ℕ) → AreBytes bytes → AreBytes (drop n bytes)
 AreBytes-drop n bytes is i = rw get_or-drop (is (n + i))
@@ -136,6 +136,43 @@ u32-within least most fits = within-reads 4 (2 ^ 32) least most u32-reads (omega
 pub u64-within : (least most : ℕ) → most < 2 ^ 64 → Reads (number_within_at 8 least most) (number_bytes 8) (λ number. (least ≤ number) × (number ≤ most))
 u64-within least most fits = within-reads 8 (2 ^ 64) least most u64-reads (omega arith) fits
 
+pub u64-from : (least : ℕ) → Reads (number_from_at 8 least) (number_bytes 8) (λ number. (number < 2 ^ 64) × (least ≤ number))
+unfolding number_from_at
+u64-from least =
+    reads-as (checked-reads u64-reads (λ n. nat_le least n) (number-empty 8 (omega arith))) (λ number. (number < 2 ^ 64) × (least ≤ number))
+    (λ number is. (is.0, leb-true least number is.1)) (λ number is. (is.0, le-leb least number is.1))
+
+pub u64-above : (low : ℕ) → Reads (number_above_at 8 low) (number_bytes 8) (λ number. (number < 2 ^ 64) × (low < number))
+unfolding number_above_at
+u64-above low =
+    reads-as (checked-reads u64-reads (λ n. nat_lt low n) (number-empty 8 (omega arith))) (λ number. (number < 2 ^ 64) × (low < number))
+    (λ number is. (is.0, ltb-true low number is.1)) (λ number is. (is.0, lt-ltb low number is.1))
+
+pub u64-given : (given : ℕ) → Reads (given_number_at 8 given) (number_bytes 8) (λ number. (number < 2 ^ 64) × (number ≡ given))
+unfolding given_number_at
+u64-given given =
+    reads-as (checked-reads u64-reads (λ n. eqb n given) (number-empty 8 (omega arith))) (λ number. (number < 2 ^ 64) × (number ≡ given))
+    (λ number is. (is.0, eqb-true number given is.1)) (λ number is. (is.0, eq-eqb number given is.1))
+
+-- there is one, or it is 0
+abbrev pub IsIf : Bool → ℕ → Type 0
+IsIf true number = Unit {0}
+IsIf false number = number ≡ 0
+
+if-is : (some : Bool) (number : ℕ) → some || eqb number 0 ≡ true → IsIf some number
+if-is true number is = tt
+if-is false number is = eqb-true number 0 is
+
+if-again : (some : Bool) (number : ℕ) → IsIf some number → some || eqb number 0 ≡ true
+if-again true number is = refl
+if-again false number is = eq-eqb number 0 is
+
+pub u64-if : (some : Bool) → Reads (number_if_at some) (number_bytes 8) (λ number. (number < 2 ^ 64) × IsIf some number)
+unfolding number_if_at
+u64-if some =
+    reads-as (checked-reads u64-reads (λ n. some || eqb n 0) (number-empty 8 (omega arith))) (λ number. (number < 2 ^ 64) × IsIf some number)
+    (λ number is. (is.0, if-is some number is.1)) (λ number is. (is.0, if-again some number is.1))
+
 pub byte-within : (least most : ℕ) → most < 256 → Reads (byte_within_at least most) byte_text (λ byte. (least ≤ byte) × (byte ≤ most))
 unfolding byte_within_at
 byte-within least most fits =
@@ -239,8 +276,8 @@ text-reads least most fits = record {
         (subst (λ (n : ℕ). (least ≤ n) × (n ≤ most)) (sym is.0) size-is, is_name-is text is.1),
       )));
   again = λ text rest is.
-      end-again (body-reads (length text) is_name (inr no-name)) (text_at least most) (byte_text (length text)) text (refl, is_name-again text is.1)
-      (after (byte-within least most fits) (text_at least most) [] _ (length text) is.0 (λ more. refl)) rest;
+      (end-again (body-reads (length text) is_name (inr no-name)) text (refl, is_name-again text is.1)
+      (after (byte-within least most fits) _ (length text) is.0 (start (text_at least most)))).goes rest;
 }
 
 pub name-reads : (most : ℕ) → most < 256 → Reads (name_at most) short_text (IsNameTo most)
@@ -271,7 +308,7 @@ path-reads last =
           )));
       again = λ path rest is.
           ap (λ (n : List ℕ). path_at last ((n ++ path) ++ rest)) (two-bytes (length path))
-          ∙ end-again (body-reads (length path) allows (inl is.0.0.0)) (path_at last) (number_bytes 2 (length path)) path
+          ∙ (end-again (body-reads (length path) allows (inl is.0.0.0)) path
           (refl, both _ _ (is_path-again path is.0.1) (is_below-again last path is.1))
-          (after (u16-within 1 1024 (omega arith)) (path_at last) [] _ (length path) (omega (arith, is.0.0.0), is.0.0.1) (λ more. refl)) rest;
+          (after (u16-within 1 1024 (omega arith)) _ (length path) (omega (arith, is.0.0.0), is.0.0.1) (start (path_at last)))).goes rest;
     }

@@ -8,7 +8,7 @@ use Rattle.save_stream.specs.Standing.{AreBytes}
 use Rattle.catalog_text.specs.Reading.{Part, ◌>>=◌}
 use Rattle.catalog_text.specs.Spelled.{Took, Judged, Reads}
 use Rattle.catalog_text.specs.Lists.{items_at, list_at, list_text, AllBehind}
-use Rattle.catalog_text.proofs.Steps.{Stands, begin, took, after, then-found, judged-as}
+use Rattle.catalog_text.proofs.Steps.{Stands, start, begin, took, after, then-found, judged-as}
 
 -- the items that were read behind these
 record HasItems {X : Type 0} (text : X → List ℕ) (IsBehind : List X → X → Type 0) (count : ℕ) (before : List X) (all front : List ℕ) (xs : List X) (rest : List ℕ) : Type 0 where
@@ -27,7 +27,7 @@ items-found item_at text IsBehind reads top all zero before front bytes stands =
   are = sym (append-nil before);
   size = refl;
   each = tt;
-  parts = subst (λ (t : List ℕ). Took all t bytes) (sym (append-nil front)) (took top all front bytes _ stands);
+  parts = subst (λ (t : List ℕ). Took all t bytes) (sym (append-nil front)) (took _ stands);
 }
 items-found {X = X} item_at text IsBehind reads top all (suc count) before front bytes stands =
     then-found (reads before) _ _ stands (λ x rest is goes.
@@ -73,6 +73,6 @@ list-reads {X = X} {count_at = count_at} {count_text = count_text} {IsCount = Is
       )));
   again = λ xs rest is.
       ap (list_at count_at item_at) (append_assoc (count_text (length xs)) (flat_map text xs) rest)
-      ∙ after counts (list_at count_at item_at) [] _ (length xs) is.0 (λ more. refl) (flat_map text xs ++ rest)
+      ∙ (after counts _ (length xs) is.0 (start (list_at count_at item_at))).goes (flat_map text xs ++ rest)
       ∙ items-again item_at text IsBehind reads xs [] rest is.1;
 }

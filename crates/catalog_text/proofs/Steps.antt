@@ -5,26 +5,37 @@ use Rattle.save_stream.specs.Standing.{AreBytes}
 use Rattle.catalog_text.specs.Reading.{Part, ◌>>=◌, checked}
 use Rattle.catalog_text.specs.Spelled.{Took, StopsIn, Judged, Reads}
 
--- A front of all bytes is read, and reading goes on: as long as the front stands there, reading the whole is going on behind it.
+-- Behind a front reading goes on so, whatever follows.
+pub record Goes {Y : Type 0} (top : List ℕ → Part Y) (front : List ℕ) (on : List ℕ → Part Y) : Type 0 where
+  pub goes : (more : List ℕ) → top (front ++ more) ≡ on more
+
+pub start : {Y : Type 0} (top : List ℕ → Part Y) → Goes top [] top
+start top = record { goes = λ more. refl }
+
+-- one more field is read
+pub after : {X Y : Type 0} {at : List ℕ → Part X} {text : X → List ℕ} {Is : X → Type 0} (reads : Reads at text Is) {top : List ℕ → Part Y} {front : List ℕ} (next : X × List ℕ → Part Y) (x : X) → Is x
+    → Goes top front (λ more. at more >>= next) → Goes top (front ++ text x) (λ more. next (x, more))
+after {X = X} {text = text} reads {top = top} {front = front} next x is goes =
+    record { goes = λ more. ap top (append_assoc front (text x) more) ∙ goes.goes (text x ++ more) ∙ ap (λ (part : Part X). part >>= next) (reads.again x more is) }
+
+-- the last field is read
+pub end-again : {X : Type 0} {at : List ℕ → Part X} {text : X → List ℕ} {Is : X → Type 0} (reads : Reads at text Is) {top : List ℕ → Part X} {front : List ℕ} (x : X) → Is x
+    → Goes top front at → Goes top (front ++ text x) (λ more. Ok (x, more))
+end-again {text = text} reads {top = top} {front = front} x is goes =
+    record { goes = λ more. ap top (append_assoc front (text x) more) ∙ goes.goes (text x ++ more) ∙ reads.again x more is }
+
+-- A front of all bytes is read, and reading goes on behind it.
 pub record Stands {Y : Type 0} (top : List ℕ → Part Y) (all front bytes : List ℕ) (on : List ℕ → Part Y) : Type 0 where
   pub parts : all ≡ front ++ bytes
   pub fits : AreBytes bytes
-  pub goes : (more : List ℕ) → top (front ++ more) ≡ on more
+  pub goes : Goes top front on
 
 pub begin : {Y : Type 0} (top : List ℕ → Part Y) (bytes : List ℕ) → AreBytes bytes → Stands top bytes [] bytes top
-begin top bytes fits = record { parts = refl; fits = fits; goes = λ more. refl }
+begin top bytes fits = record { parts = refl; fits = fits; goes = start top }
 
 -- what is read in the end is taken
-pub took : {Y : Type 0} (top : List ℕ → Part Y) (all front rest : List ℕ) (on : List ℕ → Part Y) → Stands top all front rest on → Took all front rest
-took top all front rest on stands = record { parts = stands.parts; fits = stands.fits }
-
--- the field that was read is one more of the front
-pub after : {X Y : Type 0} {at : List ℕ → Part X} {text : X → List ℕ} {Is : X → Type 0} (reads : Reads at text Is) (top : List ℕ → Part Y) (front : List ℕ) (next : X × List ℕ → Part Y) (x : X) → Is x
-    → ((more : List ℕ) → top (front ++ more) ≡ (at more >>= next))
-    → (more : List ℕ) → top ((front ++ text x) ++ more) ≡ next (x, more)
-after {X = X} {text = text} reads top front next x is goes more =
-    ap top (append_assoc front (text x) more) ∙ goes (text x ++ more)
-    ∙ ap (λ (part : Part X). part >>= next) (reads.again x more is)
+pub took : {Y : Type 0} {top : List ℕ → Part Y} {all front rest : List ℕ} (on : List ℕ → Part Y) → Stands top all front rest on → Took all front rest
+took on stands = record { parts = stands.parts; fits = stands.fits }
 
 -- what a step that went well is taken to, and one that stopped
 then-part : {X Y : Type 0} (at : List ℕ → Part X) (text : X → List ℕ) (Is : X → Type 0) (reads : Reads at text Is) (top : List ℕ → Part Y) (all front bytes : List ℕ) (next : X × List ℕ → Part Y) (Q : Y → List ℕ → Type 0)
@@ -35,14 +46,14 @@ then-part at text Is reads top all front bytes next Q (Ok x) found stands more =
     more x.0 x.1 found.1 (record {
       parts = stands.parts ∙ ap (λ (t : List ℕ). front ++ t) found.0.parts ∙ sym (append_assoc front (text x.0) x.1);
       fits = found.0.fits;
-      goes = after reads top front next x.0 found.1 stands.goes;
+      goes = after reads next x.0 found.1 stands.goes;
     })
 then-part {X = X} at text Is reads top all front bytes next Q (Err behind) found stands more = record {
   before = front ++ found.before;
   bad = found.bad;
   parts = stands.parts ∙ ap (λ (t : List ℕ). front ++ t) found.parts ∙ sym (append_assoc front found.before found.bad);
   size = found.size;
-  whole = stands.goes found.before ∙ ap (λ (part : Part X). part >>= next) found.whole;
+  whole = stands.goes.goes found.before ∙ ap (λ (part : Part X). part >>= next) found.whole;
 }
 
 pub then-found : {X Y : Type 0} {at : List ℕ → Part X} {text : X → List ℕ} {Is : X → Type 0} (reads : Reads at text Is) {top : List ℕ → Part Y} {all front bytes : List ℕ} (next : X × List ℕ → Part Y) (Q : Y → List ℕ → Type 0)
@@ -67,7 +78,7 @@ end-part at text Is top all front bytes Q (Err behind) found stands more = recor
   bad = found.bad;
   parts = stands.parts ∙ ap (λ (t : List ℕ). front ++ t) found.parts ∙ sym (append_assoc front found.before found.bad);
   size = found.size;
-  whole = stands.goes found.before ∙ found.whole;
+  whole = stands.goes.goes found.before ∙ found.whole;
 }
 
 pub end-found : {X : Type 0} {at : List ℕ → Part X} {text : X → List ℕ} {Is : X → Type 0} (reads : Reads at text Is) {top : List ℕ → Part X} {all front bytes : List ℕ} (Q : X → List ℕ → Type 0)
@@ -76,11 +87,6 @@ pub end-found : {X : Type 0} {at : List ℕ → Part X} {text : X → List ℕ} 
     → Judged top all (at bytes) Q
 end-found {at = at} {text = text} {Is = Is} reads {top = top} {all = all} {front = front} {bytes = bytes} Q stands more =
     end-part at text Is top all front bytes Q (at bytes) (reads.found bytes stands.fits) stands more
-
-pub end-again : {X : Type 0} {at : List ℕ → Part X} {text : X → List ℕ} {Is : X → Type 0} (reads : Reads at text Is) (top : List ℕ → Part X) (front : List ℕ) (x : X) → Is x
-    → ((more : List ℕ) → top (front ++ more) ≡ at more)
-    → (more : List ℕ) → top ((front ++ text x) ++ more) ≡ Ok (x, more)
-end-again {text = text} reads top front x is goes more = ap top (append_assoc front (text x) more) ∙ goes (text x ++ more) ∙ reads.again x more is
 
 -- ---- a field that is judged
 

@@ -1,5 +1,5 @@
 -- Single fields: how each is spelled, and how it is read.
-use Rattle.std.specs.Prelude.{◌≡◌, ℕ, ◌≤◌, ◌<◌, Bool, true, false, ◌&&◌, ◌==◌, nat_lt, nat_le}
+use Rattle.std.specs.Prelude.{◌≡◌, ℕ, ◌≤◌, ◌<◌, Bool, true, false, ◌&&◌, ◌||◌, ◌==◌, nat_lt, nat_le}
 use Rattle.std.specs.Prelude.{List, [], ◌∷◌, ◌++◌, length, take, drop, Option, Some, None, Ok, Err}
 use Rattle.std.specs.Prelude.{if◌then◌else◌}
 use Rattle.byteorder.specs.Endian.{big_bytes, big_number}
@@ -43,6 +43,20 @@ number_within_at size least most bytes =
 
 unfoldable pub byte_within_at : ℕ → ℕ → List ℕ → Part ℕ
 byte_within_at least most bytes = checked (is_within least most) bytes (byte_at bytes)
+
+-- a number of so many bytes that is at least this one, above this one, or this one
+unfoldable pub number_from_at : ℕ → ℕ → List ℕ → Part ℕ
+number_from_at size least bytes = checked (λ n. nat_le least n) bytes (number_at size bytes)
+
+unfoldable pub number_above_at : ℕ → ℕ → List ℕ → Part ℕ
+number_above_at size low bytes = checked (λ n. nat_lt low n) bytes (number_at size bytes)
+
+unfoldable pub given_number_at : ℕ → ℕ → List ℕ → Part ℕ
+given_number_at size given bytes = checked (λ n. n == given) bytes (number_at size bytes)
+
+-- a number of eight bytes, which is 0 where there is none
+unfoldable pub number_if_at : Bool → List ℕ → Part ℕ
+number_if_at some bytes = checked (λ n. some || (n == 0)) bytes (number_at 8 bytes)
 
 abbrev pub moment_at : List ℕ → Part ℕ
 moment_at bytes = number_within_at 8 0 max_moment bytes

@@ -3,3 +3,5 @@ pub mod Spelled
 pub mod Fields
 pub mod Lists
 pub mod Writing
+pub mod Sections
+pub mod Entries

@@ -1,7 +1,7 @@
 -- Reading fields from left to right. What is read is a value and the bytes behind it, or how many
 -- bytes there are from the first byte of the first field that isn't allowed on. A field that the
 -- bytes end in isn't allowed.
-use Rattle.std.specs.Prelude.{◌≡◌, ℕ, Bool, true, false, List, length, Result, Ok, Err}
+use Rattle.std.specs.Prelude.{◌≡◌, ℕ, Bool, true, false, List, length, Result, Ok, Err, Option, Some, None}
 use Rattle.std.specs.Prelude.{if◌then◌else◌}
 use Rattle.catalog_text.specs.declared.fault.FieldFault.{FieldFault}
 use Rattle.catalog_text.specs.declared.fault.FieldFault.TheVariants as faults
@@ -33,3 +33,8 @@ abbrev pub Allows : {T : Type 0} → Bool → List ℕ → Result T FieldFault �
 Allows allowed bytes (Ok _) = allowed ≡ true
 Allows allowed bytes (Err fault) =
     (allowed ≡ false) × (fault ≡ faults.Bad (length bytes))
+
+-- a byte at the front of these bytes stands for this, or for nothing
+abbrev pub Knows : {X : Type 0} → Option X → List ℕ → Result X FieldFault → Type 0
+Knows meaning bytes (Ok x) = meaning ≡ Some x
+Knows meaning bytes (Err fault) = (meaning ≡ None) × (fault ≡ faults.Bad (length bytes))

@@ -1,9 +1,11 @@
 //! Reads single fields at the front of bytes. Each answers the value and the bytes behind it.
 
 ghost use Rattle.std.specs.Prelude.{◌≡◌, IfOk};
-ghost use Rattle.catalog_text.specs.Reading.{Gives, Allows};
+ghost use Rattle.catalog_text.specs.Reading.{Gives, Allows, Knows};
 ghost use Rattle.catalog_text.specs.Fields.{byte_at, number_at, bytes_at, byte_within_at};
 ghost use Rattle.catalog_text.specs.Fields.{number_within_at, moment_at, code_at, flags};
+ghost use Rattle.catalog_text.specs.Fields.{number_from_at, number_above_at, given_number_at};
+ghost use Rattle.catalog_text.specs.Fields.{number_if_at};
 
 use crate::FieldFault;
 use byteorder::{BigEndian, ByteOrder};
@@ -104,6 +106,58 @@ pub fn read_u64_within(least: u64, most: u64, bytes: &[u8]) -> Result<(u64, &[u8
     let (number, rest) = read_u64(bytes)?;
     allow(least <= number && number <= most, bytes)?;
     Ok((number, rest))
+}
+
+/// A number of eight bytes that is at least this one.
+#[tactic(auto, unfolding(crate::specs::Fields::number_from_at))]
+pub fn read_u64_from(least: u64, bytes: &[u8]) -> Result<(u64, &[u8]), FieldFault>
+    ensures { Gives (λ x. (x.0, x.1.now)) result (number_from_at 8 least bytes.now) }
+{
+    let (number, rest) = read_u64(bytes)?;
+    allow(least <= number, bytes)?;
+    Ok((number, rest))
+}
+
+/// A number of eight bytes that is above this one.
+#[tactic(auto, unfolding(crate::specs::Fields::number_above_at))]
+pub fn read_u64_above(low: u64, bytes: &[u8]) -> Result<(u64, &[u8]), FieldFault>
+    ensures { Gives (λ x. (x.0, x.1.now)) result (number_above_at 8 low bytes.now) }
+{
+    let (number, rest) = read_u64(bytes)?;
+    allow(low < number, bytes)?;
+    Ok((number, rest))
+}
+
+/// A number of eight bytes that has to be this one.
+#[tactic(auto, unfolding(crate::specs::Fields::given_number_at))]
+pub fn expect_u64(given: u64, bytes: &[u8]) -> Result<(u64, &[u8]), FieldFault>
+    ensures { Gives (λ x. (x.0, x.1.now)) result (given_number_at 8 given bytes.now) }
+{
+    let (number, rest) = read_u64(bytes)?;
+    allow(number == given, bytes)?;
+    Ok((number, rest))
+}
+
+/// A number of eight bytes, which has to be 0 where there is none.
+#[tactic(auto, unfolding(crate::specs::Fields::number_if_at))]
+pub fn read_u64_if(some: bool, bytes: &[u8]) -> Result<(u64, &[u8]), FieldFault>
+    ensures { Gives (λ x. (x.0, x.1.now)) result (number_if_at some bytes.now) }
+{
+    let (number, rest) = read_u64(bytes)?;
+    allow(some || number == 0, bytes)?;
+    Ok((number, rest))
+}
+
+/// What a byte at the front of these bytes stands for, where it stands for something.
+pub fn known<X>(meaning: Option<X>, bytes: &[u8]) -> Result<X, FieldFault>
+    ensures { Knows meaning bytes.now result }
+{
+    match meaning {
+        Some(x) => Ok(x),
+        None => Err(FieldFault::Bad {
+            behind: bytes.len(),
+        }),
+    }
 }
 
 /// A moment that may be written.

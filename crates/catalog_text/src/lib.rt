@@ -3,19 +3,27 @@
 //! docs/formats.md has the bytes.
 #![tactic(auto)]
 
+mod entry;
 mod fault;
 mod field;
 mod list;
 mod put;
+mod section;
 mod text;
 
+pub use entry::Entries;
 pub use fault::{DecodeFault, FieldFault};
 pub use field::{
-    allow, read_bytes, read_flag, read_moment, read_u8, read_u8_within, read_u16, read_u16_within,
-    read_u32, read_u32_within, read_u64, read_u64_within,
+    allow, expect_u64, known, read_bytes, read_flag, read_moment, read_u8, read_u8_within,
+    read_u16, read_u16_within, read_u32, read_u32_within, read_u64, read_u64_above, read_u64_from,
+    read_u64_if, read_u64_within,
 };
-pub use list::{Format, read_items};
+pub use list::{
+    Format, items_length, put_items, put_list_u8, put_list_u16, put_list_u32, read_items,
+    read_list_u8, read_list_u16, read_list_u32,
+};
 pub use put::{
     put_bytes, put_flag, put_long_text, put_text, put_u8, put_u16, put_u32, put_u64,
 };
+pub use section::Sections;
 pub use text::{read_name, read_path, read_text};
