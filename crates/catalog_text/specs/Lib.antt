@@ -5,3 +5,5 @@ pub mod Lists
 pub mod Writing
 pub mod Sections
 pub mod Entries
+pub mod Kinds
+pub mod Resources

@@ -48,8 +48,8 @@ impl Format for Entries {
     }
 
     #[tactic(auto, using(crate::proofs::Lengths::length_entry))]
-    fn length(entry: &IndexEntry) -> usize {
-        ENTRY_SIZE + entry.path.as_bytes().len()
+    fn length(entry: &IndexEntry) -> u64 {
+        (ENTRY_SIZE + entry.path.as_bytes().len()) as u64
     }
 }
 

@@ -7,7 +7,9 @@ mod entry;
 mod fault;
 mod field;
 mod list;
+mod names;
 mod put;
+mod resource_items;
 mod section;
 mod text;
 
@@ -22,8 +24,10 @@ pub use list::{
     Format, items_length, put_items, put_list_u8, put_list_u16, put_list_u32, read_items,
     read_list_u8, read_list_u16, read_list_u32,
 };
+pub use names::{SetNames, ShortNames, text_length};
 pub use put::{
     put_bytes, put_flag, put_long_text, put_text, put_u8, put_u16, put_u32, put_u64,
 };
+pub use resource_items::{Actions, Levels, Members, Overrides, read_level};
 pub use section::Sections;
 pub use text::{read_name, read_path, read_text};

@@ -46,7 +46,7 @@ pub trait Format {
         ensures { Appends into.old into.new (text item.now) };
 
     /// How many bytes an item has.
-    fn length(item: &Self::Item) -> usize
+    fn length(item: &Self::Item) -> u64
         requires { Is item.now }
         ensures length { result ≡ length (text item.now) }
         ensures bound { result < 2 ^ 24 };
@@ -168,7 +168,7 @@ pub fn items_length<F: Format>(items: &[F::Item]) -> u64
 {
     let mut total = 0;
     for item in items {
-        total += F::length(item) as u64;
+        total += F::length(item);
     }
     total
 }

@@ -45,8 +45,8 @@ impl Format for Sections {
     }
 
     #[tactic(auto, using(crate::proofs::Lengths::length_section))]
-    fn length(_section: &Section) -> usize {
-        SECTION_SIZE
+    fn length(_section: &Section) -> u64 {
+        SECTION_SIZE as u64
     }
 }
 
