@@ -6,3 +6,4 @@ pub mod Behind
 pub mod Lengths
 pub mod SectionLaws
 pub mod EntryLaws
+pub mod KindLaws

@@ -10,6 +10,8 @@ mod list;
 mod names;
 mod put;
 mod resource_items;
+mod resource_reading;
+mod resource_writing;
 mod section;
 mod text;
 
@@ -29,5 +31,7 @@ pub use put::{
     put_bytes, put_flag, put_long_text, put_text, put_u8, put_u16, put_u32, put_u64,
 };
 pub use resource_items::{Actions, Levels, Members, Overrides, read_level};
+pub use resource_reading::{read_resource, read_resource_kind};
+pub use resource_writing::{put_resource, resource_byte};
 pub use section::Sections;
 pub use text::{read_name, read_path, read_text};
