@@ -1,12 +1,15 @@
 -- Items that are allowed behind those before them: by what each is, and by an order of their keys.
-use Rattle.std.proofs.Common.{◌≡◌, ℕ, zero, suc, ◌-◌, ◌+◌, ◌≤◌, ◌<◌, List, [], ◌∷◌, ◌++◌, length, get_or, Option, Some, None, refl, sym, ap, subst, ◌∙◌, append_assoc, arith}
+use Rattle.std.proofs.Common.{◌≡◌, ℕ, zero, suc, ◌-◌, ◌+◌, ◌≤◌, ◌<◌, true, nat_lt, List, [], ◌∷◌, ◌++◌, length, get_or, Option, Some, None, refl, sym, ap, subst, ◌∙◌, append_assoc, arith}
 use Rattle.std.specs.Prelude.{slice_get, IfSome}
 use Rattle.std.specs.List.{AllByRecursion}
 use Rattle.std.specs.declared.cmp.Ordering.{Ordering}
 use Rattle.std.specs.declared.cmp.Ordering.TheVariants.{Less}
+use Rattle.std.specs.Ordering.{nat_cmp}
+use Rattle.std.proofs.lemmas.Bool.{lt-ltb, ltb-true}
 use Rattle.std.proofs.lemmas.List.{length-append}
+use Rattle.room_base.proofs.OrderedNumbers.{compares_less, lesser_number}
 use Rattle.room_base.specs.Ordered.{Ascends, AscendsFrom}
-use Rattle.catalog_text.specs.Lists.{AllBehind, last_item, IsAbove}
+use Rattle.catalog_text.specs.Lists.{AllBehind, last_item, by_item, IsAbove}
 
 -- ---- the last of some items
 
@@ -74,3 +77,13 @@ rising-is cmp key Is xs each = rises-is cmp key Is [] xs each
 
 pub rising-behind : {X K : Type 0} (cmp : K → K → Ordering) (key : X → K) (Is : X → Type 0) (xs : List X) → AllByRecursion Is xs → Ascends cmp key xs → AllBehind (Rises cmp key Is) [] xs
 rising-behind cmp key Is xs each order = rises-behind cmp key Is [] xs each order
+
+-- ---- numbers that stand above that of the last item
+
+pub above-is : {X : Type 0} (key : X → ℕ) (last : Option X) (number : ℕ) → by_item true (λ (y : X). nat_lt (key y) number) last ≡ true → IfSome last (λ y. nat_cmp (key y) number ≡ Less)
+above-is key None number is = tt
+above-is key (Some y) number is = compares_less (key y) number (ltb-true (key y) number is)
+
+pub above-again : {X : Type 0} (key : X → ℕ) (last : Option X) (number : ℕ) → IfSome last (λ y. nat_cmp (key y) number ≡ Less) → by_item true (λ (y : X). nat_lt (key y) number) last ≡ true
+above-again key None number is = refl
+above-again key (Some y) number is = lt-ltb (key y) number (lesser_number (key y) number is)

@@ -116,7 +116,7 @@ within-is least most number is =
 within-again : (least most number : ℕ) → (least ≤ number) × (number ≤ most) → is_within least most number ≡ true
 within-again least most number is = both _ _ (le-leb least number is.0) (le-leb number most is.1)
 
-number-empty : (size : ℕ) → 0 < size → number_at size [] ≡ Err 0
+pub number-empty : (size : ℕ) → 0 < size → number_at size [] ≡ Err 0
 unfolding number_at
 number-empty size some = let short : nat_lt 0 size ≡ true = lt-ltb 0 size some in rw short refl
 

@@ -7,3 +7,4 @@ pub mod Lengths
 pub mod SectionLaws
 pub mod EntryLaws
 pub mod KindLaws
+pub mod ResourceLaws
