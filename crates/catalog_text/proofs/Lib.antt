@@ -8,3 +8,5 @@ pub mod SectionLaws
 pub mod EntryLaws
 pub mod KindLaws
 pub mod ResourceLaws
+pub mod ResourceLengths
+pub mod HeadLaws

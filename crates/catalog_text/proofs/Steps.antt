@@ -125,3 +125,11 @@ reads-as {at = at} {text = text} {Is = Is} reads Has there back = record {
   found = λ bytes fits. judged-as at bytes (at bytes) (λ x rest. Took bytes (text x) rest × Is x) (λ x rest. Took bytes (text x) rest × Has x) (reads.found bytes fits) (λ x rest is. (is.0, there x is.1));
   again = λ x rest is. reads.again x rest (back x is);
 }
+
+-- the same under another word for the spelling
+pub texts-same : {X : Type 0} {at : List ℕ → Part X} {text other : X → List ℕ} {Is : X → Type 0} (reads : Reads at text Is) → ((x : X) → other x ≡ text x) → Reads at other Is
+texts-same {X = X} {at = at} {text = text} {other = other} {Is = Is} reads same = record {
+  found = λ bytes fits. judged-as at bytes (at bytes) (λ x rest. Took bytes (text x) rest × Is x) (λ x rest. Took bytes (other x) rest × Is x) (reads.found bytes fits)
+      (λ x rest is. (subst (λ (t : List ℕ). Took bytes t rest) (sym (same x)) is.0, is.1));
+  again = λ x rest is. ap (λ (t : List ℕ). at (t ++ rest)) (same x) ∙ reads.again x rest is;
+}

@@ -7,3 +7,6 @@ pub mod Sections
 pub mod Entries
 pub mod Kinds
 pub mod Resources
+pub mod Heads
+pub mod Changes
+pub mod Decoding

@@ -1,6 +1,6 @@
 //! Reads single fields at the front of bytes. Each answers the value and the bytes behind it.
 
-ghost use Rattle.std.specs.Prelude.{◌≡◌, IfOk};
+ghost use Rattle.std.specs.Prelude.{◌≡◌, length, IfOk};
 ghost use Rattle.catalog_text.specs.Reading.{Gives, Allows, Knows};
 ghost use Rattle.catalog_text.specs.Fields.{byte_at, number_at, bytes_at, byte_within_at};
 ghost use Rattle.catalog_text.specs.Fields.{number_within_at, moment_at, code_at, flags};
@@ -62,10 +62,19 @@ pub fn read_u64(bytes: &[u8]) -> Result<(u64, &[u8]), FieldFault>
 /// So many bytes.
 #[tactic(auto, unfolding(crate::specs::Fields::bytes_at))]
 pub fn read_bytes(size: usize, bytes: &[u8]) -> Result<(&[u8], &[u8]), FieldFault>
-    ensures { Gives (λ x. (x.0.now, x.1.now)) result (bytes_at size bytes.now) }
+    ensures read { Gives (λ x. (x.0.now, x.1.now)) result (bytes_at size bytes.now) }
+    ensures size { IfOk result (λ x. length x.0.now ≡ size) }
 {
     allow(bytes.len() >= size, bytes)?;
     Ok(bytes.split_at(size))
+}
+
+/// A digest of 32 bytes.
+pub fn read_digest(bytes: &[u8]) -> Result<([u8; 32], &[u8]), FieldFault>
+    ensures { Gives (λ x. (x.0, x.1.now)) result (bytes_at 32 bytes.now) }
+{
+    let (digest, rest) = read_bytes(32, bytes)?;
+    Ok((<[u8; 32]>::try_from(digest).unwrap(), rest))
 }
 
 /// A byte from `least` to `most`.
