@@ -10,3 +10,4 @@ pub mod KindLaws
 pub mod ResourceLaws
 pub mod ResourceLengths
 pub mod HeadLaws
+pub mod ChangeLaws
