@@ -11,3 +11,5 @@ pub mod ResourceLaws
 pub mod ResourceLengths
 pub mod HeadLaws
 pub mod ChangeLaws
+pub mod ChangeLengths
+pub mod Decodes

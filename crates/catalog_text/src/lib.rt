@@ -4,10 +4,14 @@
 #![tactic(auto)]
 
 mod change_reading;
+mod change_writing;
+mod decode;
+mod encode;
 mod entry;
 mod fault;
 mod field;
 mod head;
+mod change_sizes;
 mod list;
 mod names;
 mod put;
@@ -19,6 +23,9 @@ mod section;
 mod ssids;
 mod text;
 
+pub use change_sizes::change_length;
+pub use decode::decode_change;
+pub use encode::{encode_change, encode_change_into};
 pub use entry::Entries;
 pub use fault::{DecodeFault, FieldFault};
 pub use field::{
