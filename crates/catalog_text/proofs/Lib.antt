@@ -13,3 +13,4 @@ pub mod HeadLaws
 pub mod ChangeLaws
 pub mod ChangeLengths
 pub mod Decodes
+pub mod ChangeTexts

@@ -6,7 +6,8 @@ ghost use Rattle.catalog_change.specs.Changes.{IsChange, AreSections};
 ghost use Rattle.catalog_change.specs.Resources.{IsShortName};
 ghost use Rattle.catalog_change.specs.declared.change.Change.TheVariants as changes;
 ghost use Rattle.catalog_text.specs.Fields.{number_bytes};
-ghost use Rattle.catalog_text.specs.Changes.{change_byte, fields_text, stream_text};
+ghost use Rattle.catalog_text.specs.Changes.{change_byte, fields_text, stream_text, FitsChange};
+ghost use Rattle.catalog_text.specs.Changes.{FitsStream};
 ghost use Rattle.catalog_text.specs.Sections.{sections_text};
 ghost use Rattle.catalog_text.specs.Writing.{HasRoom, Appends};
 
@@ -49,7 +50,8 @@ pub(crate) fn change_byte(change: &Change) -> u8
 pub(crate) fn put_fields(into: &mut Vec<u8>, change: &Change)
     requires allowed { IsChange change.now }
     requires room { HasRoom into.old (fields_text change.now) }
-    ensures { Appends into.old into.new (fields_text change.now) }
+    ensures text { Appends into.old into.new (fields_text change.now) }
+    ensures fits { FitsChange change.now }
 {
     match change {
         Change::Defined { resources } => put_list_u32::<Resources>(resources.as_slice(), into),
@@ -121,7 +123,8 @@ fn put_dropped(into: &mut Vec<u8>, kind: ResourceKind, name: &Name)
 
 fn put_loaded(into: &mut Vec<u8>, slot: u8, cart: Cart)
     requires { HasRoom into.old (fields_text (changes.Loaded slot cart)) }
-    ensures { Appends into.old into.new (fields_text (changes.Loaded slot cart)) }
+    ensures text { Appends into.old into.new (fields_text (changes.Loaded slot cart)) }
+    ensures fits { FitsChange (changes.Loaded slot cart) }
 {
     put_u8(into, slot);
     put_u32(into, cart.0);
@@ -138,8 +141,9 @@ fn put_labelled(
     requires allowed { IsShortName pool.now }
     requires room { HasRoom into.old
         (fields_text (changes.Labelled volids.0 cart pool.now capacity volids.1)) }
-    ensures { Appends into.old into.new
+    ensures text { Appends into.old into.new
         (fields_text (changes.Labelled volids.0 cart pool.now capacity volids.1)) }
+    ensures fits { FitsChange (changes.Labelled volids.0 cart pool.now capacity volids.1) }
 {
     put_u64(into, volids.0.0);
     put_u32(into, cart.0);
@@ -159,8 +163,9 @@ fn put_stream(
     requires allowed { AreSections sections.now }
     requires room { HasRoom into.old
         (stream_text ssid sizes.0 sizes.1 digest.now sections.now) }
-    ensures { Appends into.old into.new
+    ensures text { Appends into.old into.new
         (stream_text ssid sizes.0 sizes.1 digest.now sections.now) }
+    ensures fits { FitsStream ssid sizes.0 sizes.1 digest.now sections.now }
 {
     put_u64(into, ssid.0);
     put_u32(into, sizes.0);
@@ -171,7 +176,8 @@ fn put_stream(
 
 fn put_amended(into: &mut Vec<u8>, ssid: Ssid, browse: Moment, retain: Moment, hold: bool)
     requires { HasRoom into.old (fields_text (changes.Amended ssid browse retain hold)) }
-    ensures { Appends into.old into.new (fields_text (changes.Amended ssid browse retain hold)) }
+    ensures text { Appends into.old into.new (fields_text (changes.Amended ssid browse retain hold)) }
+    ensures fits { FitsChange (changes.Amended ssid browse retain hold) }
 {
     put_u64(into, ssid.0);
     put_u64(into, browse.0);
@@ -181,7 +187,8 @@ fn put_amended(into: &mut Vec<u8>, ssid: Ssid, browse: Moment, retain: Moment, h
 
 fn put_copy(into: &mut Vec<u8>, ssid: Ssid, copy: CopyNo)
     requires { HasRoom into.old (fields_text (changes.CopyBegun ssid copy)) }
-    ensures { Appends into.old into.new (fields_text (changes.CopyBegun ssid copy)) }
+    ensures text { Appends into.old into.new (fields_text (changes.CopyBegun ssid copy)) }
+    ensures fits { FitsChange (changes.CopyBegun ssid copy) }
 {
     put_u64(into, ssid.0);
     put_u32(into, copy.0);

@@ -5,7 +5,7 @@ ghost use Rattle.catalog_change.specs.Changes.{IsEntry};
 ghost use Rattle.catalog_text.specs.Reading.{Gives};
 ghost use Rattle.catalog_text.specs.Fields.{coded, code_at};
 ghost use Rattle.catalog_text.specs.Entries.{entry_kinds, entry_byte, has_mtime, has_bytes};
-ghost use Rattle.catalog_text.specs.Entries.{low_path, entry_at, entry_text};
+ghost use Rattle.catalog_text.specs.Entries.{low_path, entry_at, entry_text, FitsEntry};
 ghost use Rattle.catalog_text.specs.Writing.{HasRoom, Appends};
 
 use crate::field::{known, read_u8, read_u64_if};
@@ -34,6 +34,8 @@ impl Format for Entries {
     ghost Is = { IsEntry };
 
     ghost LEAST = { 28 };
+
+    ghost Fits = { FitsEntry };
 
     fn read<'a>(
         alloc: Global,
@@ -138,7 +140,8 @@ fn low_path(before: &[IndexEntry]) -> &[u8]
 fn put_entry(entry: &IndexEntry, into: &mut Vec<u8>)
     requires allowed { IsEntry entry.now }
     requires room { HasRoom into.old (entry_text entry.now) }
-    ensures { Appends into.old into.new (entry_text entry.now) }
+    ensures text { Appends into.old into.new (entry_text entry.now) }
+    ensures fits { FitsEntry entry.now }
 {
     put_u8(into, byte_of(entry.kind));
     put_long_text(into, &entry.path);

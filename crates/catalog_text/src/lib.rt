@@ -11,6 +11,7 @@ mod entry;
 mod fault;
 mod field;
 mod head;
+mod laws;
 mod change_sizes;
 mod list;
 mod names;
@@ -33,6 +34,7 @@ pub use field::{
     read_u16, read_u16_within, read_u32, read_u32_within, read_u64, read_u64_above, read_u64_from,
     read_u64_if, read_u64_within,
 };
+pub use laws::{bytes_are_a_change_or_bad, encoded_changes_are_decoded, one_spelling};
 pub use head::{put_head, read_head};
 pub use list::{
     Format, items_length, put_items, put_list_u8, put_list_u16, put_list_u32, read_items,

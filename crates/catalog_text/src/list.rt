@@ -31,6 +31,9 @@ pub trait Format {
 
     ghost LEAST: { ℕ };
 
+    /// That the numbers of an item are in the ranges of their types.
+    ghost Fits: { Self.Item → Type 0 } = { λ _. Unit {0} };
+
     /// Reads an item at the front of bytes.
     fn read<'a>(
         alloc: Global,
@@ -43,7 +46,8 @@ pub trait Format {
     fn put(item: &Self::Item, into: &mut Vec<u8>)
         requires allowed { Is item.now }
         requires room { HasRoom into.old (text item.now) }
-        ensures { Appends into.old into.new (text item.now) };
+        ensures text { Appends into.old into.new (text item.now) }
+        ensures fits { Fits item.now };
 
     /// How many bytes an item has.
     fn length(item: &Self::Item) -> u64
@@ -119,7 +123,8 @@ pub fn read_list_u32<F: Format>(
 pub fn put_items<F: Format>(items: &[F::Item], into: &mut Vec<u8>)
     requires allowed { AllByRecursion F.Is items.now }
     requires room { HasRoom into.old (flat_map F.text items.now) }
-    ensures { Appends into.old into.new (flat_map F.text items.now) }
+    ensures text { Appends into.old into.new (flat_map F.text items.now) }
+    ensures fits { AllByRecursion F.Fits items.now }
 {
     for item in items {
         F::put(item, into);
@@ -131,7 +136,8 @@ pub fn put_list_u8<F: Format>(items: &[F::Item], into: &mut Vec<u8>)
     requires allowed { AllByRecursion F.Is items.now }
     requires count { length items.now < 2 ^ 8 }
     requires room { HasRoom into.old (list_text byte_text F.text items.now) }
-    ensures { Appends into.old into.new (list_text byte_text F.text items.now) }
+    ensures text { Appends into.old into.new (list_text byte_text F.text items.now) }
+    ensures fits { AllByRecursion F.Fits items.now }
 {
     put_u8(into, items.len() as u8);
     put_items::<F>(items, into);
@@ -142,7 +148,8 @@ pub fn put_list_u16<F: Format>(items: &[F::Item], into: &mut Vec<u8>)
     requires allowed { AllByRecursion F.Is items.now }
     requires count { length items.now < 2 ^ 16 }
     requires room { HasRoom into.old (list_text (number_bytes 2) F.text items.now) }
-    ensures { Appends into.old into.new (list_text (number_bytes 2) F.text items.now) }
+    ensures text { Appends into.old into.new (list_text (number_bytes 2) F.text items.now) }
+    ensures fits { AllByRecursion F.Fits items.now }
 {
     put_u16(into, items.len() as u16);
     put_items::<F>(items, into);
@@ -153,7 +160,8 @@ pub fn put_list_u32<F: Format>(items: &[F::Item], into: &mut Vec<u8>)
     requires allowed { AllByRecursion F.Is items.now }
     requires count { length items.now < 2 ^ 32 }
     requires room { HasRoom into.old (list_text (number_bytes 4) F.text items.now) }
-    ensures { Appends into.old into.new (list_text (number_bytes 4) F.text items.now) }
+    ensures text { Appends into.old into.new (list_text (number_bytes 4) F.text items.now) }
+    ensures fits { AllByRecursion F.Fits items.now }
 {
     put_u32(into, items.len() as u32);
     put_items::<F>(items, into);

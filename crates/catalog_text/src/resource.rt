@@ -4,7 +4,7 @@ ghost use Rattle.std.specs.Prelude.{◌≡◌, ◌<◌, ◌^◌, List, ℕ, leng
 ghost use Rattle.catalog_change.specs.Resources.{IsResource};
 ghost use Rattle.catalog_change.specs.declared.resource.Resource.TheVariants as resources;
 ghost use Rattle.catalog_text.specs.Reading.{Gives};
-ghost use Rattle.catalog_text.specs.Resources.{resource_at, resource_text};
+ghost use Rattle.catalog_text.specs.Resources.{resource_at, resource_text, FitsResource};
 ghost use Rattle.catalog_text.specs.Writing.{HasRoom, Appends};
 
 use crate::names::{SetNames, ShortNames, text_length};
@@ -31,6 +31,8 @@ impl Format for Resources {
     ghost Is = { IsResource };
 
     ghost LEAST = { 6 };
+
+    ghost Fits = { FitsResource };
 
     fn read<'a>(
         alloc: Global,

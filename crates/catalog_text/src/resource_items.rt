@@ -35,6 +35,8 @@ impl Format for Levels {
 
     ghost LEAST = { 1 };
 
+    ghost Fits = { λ level. level ≤ 10 };
+
     fn read<'a>(
         _alloc: Global,
         _before: &[Level],
@@ -77,6 +79,8 @@ impl Format for Actions {
 
     ghost LEAST = { 1 };
 
+    ghost Fits = { λ action. action ≤ 11 };
+
     fn read<'a>(
         _alloc: Global,
         _before: &[Action],
@@ -118,6 +122,8 @@ impl Format for Overrides {
     ghost Is = { λ one. Unit {0} };
 
     ghost LEAST = { 5 };
+
+    ghost Fits = { λ one. one.action ≤ 11 };
 
     fn read<'a>(
         _alloc: Global,

@@ -5,7 +5,7 @@ ghost use Rattle.catalog_change.specs.Resources.{IsPolicy, IsPool, IsClient, IsS
 ghost use Rattle.catalog_change.specs.Resources.{IsResource};
 ghost use Rattle.catalog_change.specs.declared.resource.Resource.TheVariants as resources;
 ghost use Rattle.catalog_text.specs.Resources.{resource_byte, resource_text, fields_text};
-ghost use Rattle.catalog_text.specs.Resources.{unit_byte, period_byte};
+ghost use Rattle.catalog_text.specs.Resources.{unit_byte, period_byte, FitsResource};
 ghost use Rattle.catalog_text.specs.Writing.{HasRoom, Appends};
 
 use crate::list::{put_list_u8, put_list_u16};
@@ -19,7 +19,8 @@ use room_rules::{Group, Period, Policy, Pool, Schedule, Unit};
 pub fn put_resource(into: &mut Vec<u8>, resource: &Resource)
     requires allowed { IsResource resource.now }
     requires room { HasRoom into.old (resource_text resource.now) }
-    ensures { Appends into.old into.new (resource_text resource.now) }
+    ensures text { Appends into.old into.new (resource_text resource.now) }
+    ensures fits { FitsResource resource.now }
 {
     put_u8(into, resource_byte(resource.kind()));
     match resource {
@@ -68,7 +69,8 @@ fn unit_byte(unit: Unit) -> u8
 fn put_pool(into: &mut Vec<u8>, pool: &Pool)
     requires allowed { IsPool pool.now }
     requires room { HasRoom into.old (fields_text (resources.Pool pool.now)) }
-    ensures { Appends into.old into.new (fields_text (resources.Pool pool.now)) }
+    ensures text { Appends into.old into.new (fields_text (resources.Pool pool.now)) }
+    ensures fits { FitsResource (resources.Pool pool.now) }
 {
     put_text(into, &pool.name);
     put_list_u16::<ShortNames>(pool.groups.as_slice(), into);
@@ -90,7 +92,8 @@ fn put_client(into: &mut Vec<u8>, client: &Client)
 fn put_schedule(into: &mut Vec<u8>, schedule: &Schedule)
     requires allowed { IsSchedule schedule.now }
     requires room { HasRoom into.old (fields_text (resources.Schedule schedule.now)) }
-    ensures { Appends into.old into.new (fields_text (resources.Schedule schedule.now)) }
+    ensures text { Appends into.old into.new (fields_text (resources.Schedule schedule.now)) }
+    ensures fits { FitsResource (resources.Schedule schedule.now) }
 {
     put_text(into, &schedule.name);
     put_u8(into, period_byte(schedule.period));

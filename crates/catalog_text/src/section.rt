@@ -3,7 +3,7 @@
 ghost use Rattle.std.specs.Prelude.{◌≡◌, ◌≤◌, List, ℕ};
 ghost use Rattle.catalog_change.specs.Changes.{IsSection};
 ghost use Rattle.catalog_text.specs.Reading.{Gives};
-ghost use Rattle.catalog_text.specs.Sections.{end_of, section_at, section_text};
+ghost use Rattle.catalog_text.specs.Sections.{end_of, section_at, section_text, FitsSection};
 ghost use Rattle.catalog_text.specs.Writing.{HasRoom, Appends};
 
 use crate::field::{expect_u64, read_u64, read_u64_above, read_u64_from};
@@ -31,6 +31,8 @@ impl Format for Sections {
     ghost Is = { λ section. Unit {0} };
 
     ghost LEAST = { 48 };
+
+    ghost Fits = { FitsSection };
 
     fn read<'a>(
         _alloc: Global,
@@ -83,7 +85,8 @@ fn end_of(before: &[Section]) -> u64
 
 fn put_section(section: &Section, into: &mut Vec<u8>)
     requires { HasRoom into.old (section_text section.now) }
-    ensures { Appends into.old into.new (section_text section.now) }
+    ensures text { Appends into.old into.new (section_text section.now) }
+    ensures fits { FitsSection section.now }
 {
     put_u64(into, section.volid.0);
     put_u64(into, section.mark);

@@ -1,6 +1,6 @@
 //! Lists of save sets and of resources, as changes have them.
 
-ghost use Rattle.std.specs.Prelude.{◌≡◌, List, ℕ};
+ghost use Rattle.std.specs.Prelude.{◌≡◌, ◌<◌, ◌^◌, List, ℕ};
 ghost use Rattle.catalog_change.specs.Resources.{IsResource};
 ghost use Rattle.catalog_text.specs.Reading.{Gives};
 ghost use Rattle.catalog_text.specs.Changes.{is_next_ssid, ssid_at, ssid_text};
@@ -27,6 +27,8 @@ impl Format for Ssids {
     ghost Is = { λ ssid. Unit {0} };
 
     ghost LEAST = { 8 };
+
+    ghost Fits = { λ ssid. ssid.0 < 2 ^ 64 };
 
     fn read<'a>(
         _alloc: Global,
