@@ -7,21 +7,48 @@ use Rattle.media_db.specs.declared.copies.Section.{Section}
 use Rattle.save_stream.specs.Spelling.{short_text, head_text}
 use Rattle.catalog_change.specs.declared.change.Change.{Change}
 use Rattle.catalog_change.specs.declared.change.Change.TheVariants.{
-  Defined, Dropped, Loaded, Ejected, Labelled, Begun, Finished, Aborted, Amended, Deleted, Purged,
-  CopyBegun, CopyDone, IndexPart, FinishedParts
+  Defined,
+  Dropped,
+  Loaded,
+  Ejected,
+  Labelled,
+  Begun,
+  Finished,
+  Aborted,
+  Amended,
+  Deleted,
+  Purged,
+  CopyBegun,
+  CopyDone,
+  IndexPart,
+  FinishedParts,
 }
 use Rattle.catalog_change.specs.declared.resource.Resource.{Resource}
 use Rattle.catalog_text.specs.Reading.{Part, ◌>>=◌, checked}
 use Rattle.catalog_text.specs.Fields.{
-  byte_text, byte_at, number_bytes, number_at, number_within_at, number_above_at, bytes_at,
-  moment_at, code_at, flags, flag_byte, name_at
+  byte_text,
+  byte_at,
+  number_bytes,
+  number_at,
+  number_within_at,
+  number_above_at,
+  bytes_at,
+  moment_at,
+  code_at,
+  flags,
+  flag_byte,
+  name_at,
 }
 use Rattle.catalog_text.specs.Lists.{list_at, list_text, last_item, by_item}
 use Rattle.catalog_text.specs.Kinds.{Readers, by_kind_at}
 use Rattle.catalog_text.specs.Sections.{sections_at, sections_text, FitsSection}
 use Rattle.catalog_text.specs.Entries.{index_at, index_text, FitsEntry}
 use Rattle.catalog_text.specs.Resources.{
-  resource_at, resource_text, resource_kinds, resource_byte, FitsResource
+  resource_at,
+  resource_text,
+  resource_kinds,
+  resource_byte,
+  FitsResource,
 }
 use Rattle.catalog_text.specs.Heads.{head_at}
 
@@ -139,7 +166,7 @@ labelled_at bytes = do
   was ← number_at 8 capacity.1
   Ok (
     Labelled (record { 0 = volid.0 }) (record { 0 = cart.0 }) pool.0 capacity.0
-    (record { 0 = was.0 }),
+        (record { 0 = was.0 }),
     was.1,
   )
 
@@ -198,7 +225,7 @@ copy_done_at bytes = do
   removed ← number_at 4 sections.1
   Ok (
     CopyDone (record { 0 = ssid.0 }) (record { 0 = copy.0 }) sections.0
-    (record { 0 = removed.0 }),
+        (record { 0 = removed.0 }),
     removed.1,
   )
 

@@ -6,7 +6,12 @@ use Rattle.save_stream.specs.declared.entry.EntryKind.TheVariants as kinds
 use Rattle.save_stream.specs.declared.entry.IndexEntry.{IndexEntry}
 use Rattle.catalog_text.specs.Reading.{Part, ◌>>=◌}
 use Rattle.catalog_text.specs.Fields.{
-  byte_text, number_bytes, number_if_at, number_within_at, code_at, path_at
+  byte_text,
+  number_bytes,
+  number_if_at,
+  number_within_at,
+  code_at,
+  path_at,
 }
 use Rattle.catalog_text.specs.Lists.{list_at, list_text, last_item, by_item}
 

@@ -5,7 +5,13 @@ use Rattle.save_stream.specs.Reading.{is_level}
 use Rattle.save_stream.specs.declared.head.SetHead.{SetHead}
 use Rattle.catalog_text.specs.Reading.{Part, ◌>>=◌, checked}
 use Rattle.catalog_text.specs.Fields.{
-  byte_at, number_at, number_above_at, number_within_at, moment_at, name_at, text_at
+  byte_at,
+  number_at,
+  number_above_at,
+  number_within_at,
+  moment_at,
+  name_at,
+  text_at,
 }
 
 unfoldable pub head_at : List ℕ → Part SetHead

@@ -21,7 +21,13 @@ use Rattle.catalog_change.specs.declared.resource.ResourceKind.TheVariants as ki
 use Rattle.catalog_change.specs.Resources.{kind_of, max_day}
 use Rattle.catalog_text.specs.Reading.{Part, ◌>>=◌, checked}
 use Rattle.catalog_text.specs.Fields.{
-  byte_text, number_bytes, number_at, number_within_at, byte_within_at, code_at, name_at
+  byte_text,
+  number_bytes,
+  number_at,
+  number_within_at,
+  byte_within_at,
+  code_at,
+  name_at,
 }
 use Rattle.catalog_text.specs.Lists.{list_at, list_text, last_item, by_item}
 use Rattle.catalog_text.specs.Kinds.{Readers, by_kind_at}

@@ -5,7 +5,12 @@ use Rattle.media_db.specs.declared.copies.Section.{Section}
 use Rattle.catalog_change.specs.Changes.{IsSection}
 use Rattle.catalog_text.specs.Reading.{Part, ◌>>=◌}
 use Rattle.catalog_text.specs.Fields.{
-  number_bytes, number_at, number_from_at, number_above_at, given_number_at, number_within_at
+  number_bytes,
+  number_at,
+  number_from_at,
+  number_above_at,
+  given_number_at,
+  number_within_at,
 }
 use Rattle.catalog_text.specs.Lists.{list_at, list_text, last_item, by_item}
 

@@ -8,6 +8,7 @@ ghost use Rattle.catalog_text.specs.Changes.{amended_at, deleted_at, purged_at, 
 ghost use Rattle.catalog_text.specs.Changes.{copy_done_at, index_part_at, finished_parts_at};
 ghost use Rattle.catalog_text.specs.Changes.{change_alone_at};
 
+use crate::FieldFault;
 use crate::entry::Entries;
 use crate::field::{
     read_digest, read_flag, read_u8, read_u32, read_u32_within, read_u64, read_u64_above,
@@ -19,13 +20,13 @@ use crate::resource_reading::read_resource_kind;
 use crate::section::Sections;
 use crate::ssids::Ssids;
 use crate::text::read_name;
-use crate::FieldFault;
 use catalog_change::Change;
 use room_base::{Cart, CopyNo, Moment, Ssid, Volid};
 use std::alloc::Global;
 
 /// The least and the greatest capacity of a volume, in blocks of whatever size.
 const MIN_CAPACITY: u32 = 67;
+
 const MAX_CAPACITY: u32 = 1_000_000;
 
 /// The most entries of a part of an index.

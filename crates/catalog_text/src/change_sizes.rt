@@ -48,7 +48,9 @@ fn fields_length(change: &Change) -> u64
         Change::CopyDone { sections, .. } => 20 + 48 * sections.as_slice().len() as u64,
         Change::IndexPart { index, .. } => 16 + items_length::<Entries>(index.as_slice()),
         Change::FinishedParts {
-            digest, sections, ..
+            digest,
+            sections,
+            ..
         } => stream_length(digest, sections),
     }
 }

@@ -131,13 +131,7 @@ fn put_loaded(into: &mut Vec<u8>, slot: u8, cart: Cart)
 }
 
 // The first volid is that of the volume, the other one that of the label before it.
-fn put_labelled(
-    into: &mut Vec<u8>,
-    volids: (Volid, Volid),
-    cart: Cart,
-    pool: &Name,
-    capacity: u32,
-)
+fn put_labelled(into: &mut Vec<u8>, volids: (Volid, Volid), cart: Cart, pool: &Name, capacity: u32)
     requires allowed { IsShortName pool.now }
     requires room { HasRoom into.old
         (fields_text (changes.Labelled volids.0 cart pool.now capacity volids.1)) }

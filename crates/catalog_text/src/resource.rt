@@ -7,8 +7,8 @@ ghost use Rattle.catalog_text.specs.Reading.{Gives};
 ghost use Rattle.catalog_text.specs.Resources.{resource_at, resource_text, FitsResource};
 ghost use Rattle.catalog_text.specs.Writing.{HasRoom, Appends};
 
-use crate::names::{SetNames, ShortNames, text_length};
 use crate::list::items_length;
+use crate::names::{SetNames, ShortNames, text_length};
 use crate::resource_items::Members;
 use crate::resource_reading::read_resource;
 use crate::resource_writing::put_resource;

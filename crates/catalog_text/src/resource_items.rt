@@ -145,10 +145,7 @@ impl Format for Overrides {
 }
 
 #[tactic(auto, unfolding(crate::specs::Resources::override_at, crate::specs::Fields::byte_within_at))]
-fn override_of<'a>(
-    before: &[Override],
-    bytes: &'a [u8],
-) -> Result<(Override, &'a [u8]), FieldFault>
+fn override_of<'a>(before: &[Override], bytes: &'a [u8]) -> Result<(Override, &'a [u8]), FieldFault>
     ensures { Gives (λ x. (x.0, x.1.now)) result (override_at before.now bytes.now) }
 {
     let (day, rest) = read_u32(bytes)?;

@@ -19,8 +19,11 @@ use std::alloc::Global;
 
 // The most criteria of one kind, actions, overrides and members.
 const MAX_CRITERIA: u16 = 64;
+
 const MAX_ACTIONS: u8 = 31;
+
 const MAX_OVERRIDES: u8 = 64;
+
 const MAX_MEMBERS: u16 = 256;
 
 // The most periods that a policy keeps something.
