@@ -1,5 +1,5 @@
 -- Changes: what is read is spelled so and allowed, and what is allowed is read.
-use Rattle.std.proofs.Common.{◌≡◌, ℕ, ◌≤◌, ◌<◌, ◌^◌, true, nat_lt, List, [], ◌∷◌, ◌++◌, length, Ok, refl, sym, ap, subst, ◌∙◌, arith}
+use Rattle.std.proofs.Common.{◌≡◌, ℕ, ◌≤◌, ◌<◌, ◌^◌, List, [], ◌∷◌, ◌++◌, length, Ok, refl, arith}
 use Rattle.std.specs.Prelude.{IfSome}
 use Rattle.std.specs.List.{AllByRecursion}
 use Rattle.std.specs.Ordering.{nat_cmp}
@@ -7,7 +7,6 @@ use Rattle.std.specs.declared.cmp.Ordering.TheVariants.{Less}
 use Rattle.room_base.specs.Numbers.{max_moment}
 use Rattle.room_base.specs.Ordered.{Ascends}
 use Rattle.room_base.specs.declared.numbers.Ssid.{Ssid}
-use Rattle.save_stream.specs.Spelling.{IsHead, short_text, head_text}
 use Rattle.save_stream.specs.Standing.{AreBytes}
 use Rattle.catalog_change.specs.Changes.{IsChange, IsCount, ssid_number}
 use Rattle.catalog_change.specs.Resources.{IsResource}
@@ -15,11 +14,10 @@ use Rattle.catalog_change.specs.declared.change.Change.{Change}
 use Rattle.catalog_change.specs.declared.change.Change.TheVariants.{Defined, Dropped, Loaded, Ejected, Labelled, Begun, Finished, Aborted, Amended, Deleted, Purged, CopyBegun, CopyDone, IndexPart, FinishedParts}
 use Rattle.catalog_change.specs.declared.resource.Resource.{Resource}
 use Rattle.catalog_text.specs.Spelled.{Took, Judged, Reads}
-use Rattle.catalog_text.specs.Fields.{number_bytes, number_at}
-use Rattle.catalog_text.specs.Lists.{AllBehind, last_item, by_item, IsAbove}
+use Rattle.catalog_text.specs.Lists.{last_item}
 use Rattle.catalog_text.specs.Kinds.{chosen}
 use Rattle.catalog_text.specs.Resources.{resource_text, FitsResource}
-use Rattle.catalog_text.specs.Changes.{max_count, resources_at, resources_text, ssid_text, is_next_ssid, ssid_at, ssids_at, ssids_text, change_byte, fields_text, defined_at, dropped_at, loaded_at, ejected_at, labelled_at, begun_at, finished_at, aborted_at, amended_at, deleted_at, purged_at, copy_begun_at, copy_done_at, index_part_at, finished_parts_at, change_readers, change_alone_at, change_alone_text, Stamped, change_at, change_text, FitsStream, FitsChange}
+use Rattle.catalog_text.specs.Changes.{max_count, resources_at, resources_text, ssid_text, is_next_ssid, ssid_at, ssids_at, ssids_text, change_byte, fields_text, defined_at, dropped_at, loaded_at, ejected_at, labelled_at, begun_at, finished_at, aborted_at, amended_at, deleted_at, purged_at, copy_begun_at, copy_done_at, index_part_at, finished_parts_at, change_readers, change_alone_at, change_alone_text, Stamped, change_at, change_text, FitsChange}
 use Rattle.catalog_text.proofs.Steps.{start, begin, took, after, then-found, checked-reads, reads-as}
 use Rattle.catalog_text.proofs.Fields.{byte-reads, bytes-reads, u32-reads, u64-reads, u32-within, u64-above, number-empty, moment-reads, flag-reads, name-reads}
 use Rattle.catalog_text.proofs.Lists.{list-reads}

@@ -1,6 +1,6 @@
 -- How long changes are.
-use Rattle.std.proofs.Common.{◌≡◌, ℕ, ◌+◌, ◌*◌, ◌≤◌, ◌<◌, ◌^◌, List, [], ◌∷◌, ◌++◌, length, refl, ◌∙◌, ap, sym, arith}
-use Rattle.std.specs.List.{flat_map, AllByRecursion}
+use Rattle.std.proofs.Common.{◌≡◌, ℕ, ◌+◌, ◌*◌, ◌<◌, ◌^◌, List, length, arith}
+use Rattle.std.specs.List.{flat_map}
 use Rattle.std.proofs.lemmas.List.{length-append}
 use Rattle.media_db.specs.declared.copies.Section.{Section}
 use Rattle.room_base.specs.declared.numbers.Cart.{Cart}
@@ -8,15 +8,14 @@ use Rattle.room_base.specs.declared.numbers.CopyNo.{CopyNo}
 use Rattle.room_base.specs.declared.numbers.Moment.{Moment}
 use Rattle.room_base.specs.declared.numbers.Ssid.{Ssid}
 use Rattle.room_base.specs.declared.numbers.Volid.{Volid}
-use Rattle.save_stream.specs.Spelling.{IsHead, head_text, short_text}
+use Rattle.save_stream.specs.Spelling.{IsHead, head_text}
 use Rattle.save_stream.specs.declared.entry.IndexEntry.{IndexEntry}
 use Rattle.save_stream.specs.declared.head.SetHead.{SetHead}
 use Rattle.save_stream.proofs.Lengths.{length-head_text}
 use Rattle.catalog_change.specs.declared.change.Change.{Change}
-use Rattle.catalog_change.specs.declared.change.Change.TheVariants.{Defined, Dropped, Loaded, Ejected, Labelled, Begun, Finished, Aborted, Amended, Deleted, Purged, CopyBegun, CopyDone, IndexPart, FinishedParts}
+use Rattle.catalog_change.specs.declared.change.Change.TheVariants.{Defined, Dropped, Loaded, Labelled, Finished, Amended, Purged, CopyBegun, CopyDone, IndexPart}
 use Rattle.catalog_change.specs.declared.resource.Resource.{Resource}
 use Rattle.catalog_change.specs.declared.resource.ResourceKind.{ResourceKind}
-use Rattle.catalog_text.specs.Fields.{number_bytes}
 use Rattle.catalog_text.specs.Sections.{section_text}
 use Rattle.catalog_text.specs.Entries.{entry_text}
 use Rattle.catalog_text.specs.Resources.{resource_text}

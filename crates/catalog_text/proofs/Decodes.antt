@@ -1,16 +1,12 @@
 -- What decoding answers.
-use Rattle.std.proofs.Common.{◌≡◌, ℕ, zero, suc, false, eqb, ◌+◌, ◌-◌, ◌≤◌, ◌<◌, List, [], ◌∷◌, ◌++◌, length, Ok, Err, refl, sym, ap, subst, ◌∙◌, arith, inl, inr}
-use Rattle.std.specs.Prelude.{◌⊎◌}
+use Rattle.std.proofs.Common.{◌≡◌, ℕ, zero, suc, false, eqb, ◌-◌, ◌≤◌, ◌<◌, List, [], ◌++◌, length, Ok, Err, refl, sym, ap, subst, ◌∙◌, arith, inl, inr}
 use Rattle.std.proofs.lemmas.List.{append-nil, length-append, nil_from_length}
 use Rattle.std.proofs.lemmas.Bool.{eqb-false}
-use Rattle.room_base.specs.Numbers.{max_moment}
 use Rattle.save_stream.specs.Standing.{AreBytes}
-use Rattle.catalog_change.specs.Changes.{IsChange}
-use Rattle.catalog_change.specs.declared.change.Change.{Change}
 use Rattle.catalog_text.specs.Reading.{Part}
 use Rattle.catalog_text.specs.Spelled.{Took, StopsIn, Judged, Reads}
-use Rattle.catalog_text.specs.Changes.{Stamped, FitsChange, change_at, change_text}
-use Rattle.catalog_text.specs.Decoding.{IsStamped, ChangeText, StopsAt, EndsAt, HasBad}
+use Rattle.catalog_text.specs.Changes.{Stamped, change_at, change_text}
+use Rattle.catalog_text.specs.Decoding.{ChangeText, HasBad}
 use Rattle.catalog_text.proofs.ChangeLaws.{change-reads}
 
 -- ---- of any format

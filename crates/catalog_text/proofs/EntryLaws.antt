@@ -1,20 +1,17 @@
 -- Entries of an index: what is read is spelled so, and the entries that are read are those of an index.
-use Rattle.std.proofs.Common.{◌≡◌, ℕ, ◌≤◌, ◌<◌, ◌^◌, Bool, true, false, List, [], ◌∷◌, ◌++◌, length, Option, Some, None, Ok, refl, sym, ap, subst, ◌∙◌, arith}
+use Rattle.std.proofs.Common.{◌≡◌, ℕ, ◌≤◌, ◌<◌, ◌^◌, List, [], ◌∷◌, length, Option, Some, None, refl, arith}
 use Rattle.std.specs.Prelude.{IfSome}
 use Rattle.std.specs.List.{AllByRecursion}
 use Rattle.std.specs.Ordering.{nat_cmp}
 use Rattle.std.specs.Cmp.Lexicographic.{slice_cmp}
-use Rattle.std.specs.declared.cmp.Ordering.TheVariants.{Less}
-use Rattle.room_base.specs.Text.{HasLength, IsPathText}
-use Rattle.room_base.specs.Ordered.{Ascends}
-use Rattle.save_stream.specs.Spelling.{IsBelow, path_of, PathsAscend}
+use Rattle.save_stream.specs.Spelling.{IsBelow, path_of}
 use Rattle.save_stream.specs.declared.entry.EntryKind.{EntryKind}
 use Rattle.save_stream.specs.declared.entry.EntryKind.TheVariants as kinds
 use Rattle.save_stream.specs.declared.entry.IndexEntry.{IndexEntry}
-use Rattle.catalog_change.specs.Changes.{IsCount, IsEntry, HasOnlyItsFields, AreEntries}
-use Rattle.catalog_text.specs.Spelled.{Took, Judged, Reads}
-use Rattle.catalog_text.specs.Fields.{coded, code_at, byte_text, number_bytes}
-use Rattle.catalog_text.specs.Lists.{AllBehind, last_item, by_item, IsAbove}
+use Rattle.catalog_change.specs.Changes.{IsEntry, HasOnlyItsFields, AreEntries}
+use Rattle.catalog_text.specs.Spelled.{Reads}
+use Rattle.catalog_text.specs.Fields.{coded, code_at, byte_text}
+use Rattle.catalog_text.specs.Lists.{last_item, by_item}
 use Rattle.catalog_text.specs.Entries.{entry_kinds, entry_byte, has_mtime, has_bytes, low_path, entry_text, entry_at, index_text, index_at, FitsEntry}
 use Rattle.catalog_text.proofs.Steps.{start, begin, took, after, then-found, reads-as}
 use Rattle.catalog_text.proofs.Fields.{u32-within, u64-if, IsIf, path-reads, IsPathAbove, code-reads}

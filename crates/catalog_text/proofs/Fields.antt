@@ -1,13 +1,12 @@
 -- Single fields: what is read of each is what is spelled.
-use Rattle.std.proofs.Common.{◌≡◌, ℕ, zero, suc, ◌+◌, ◌≤◌, ◌<◌, ◌^◌, Bool, true, false, cond, eqb, nat_lt, nat_le, List, [], ◌∷◌, ◌++◌, length, take, drop, get_or, Option, Some, None, Ok, Err, refl, sym, ap, subst, ◌∙◌, eq-eqb, arith, inl, inr}
+use Rattle.std.proofs.Common.{◌≡◌, ℕ, zero, suc, ◌+◌, ◌≤◌, ◌<◌, ◌^◌, Bool, true, false, cond, eqb, nat_lt, nat_le, List, [], ◌∷◌, ◌++◌, length, take, drop, Option, Some, None, Ok, Err, refl, sym, ap, subst, ◌∙◌, eq-eqb, arith, inl, inr}
 use Rattle.std.specs.Prelude.{◌&&◌, ◌||◌, ◌⊎◌}
-use Rattle.std.specs.Int.{w16, w32, w64, from_be_bytes}
 use Rattle.std.specs.List.{AllByRecursion}
-use Rattle.std.proofs.lemmas.Bool.{cases_lt, lt-ltb, le-ltb, ltb-true, leb-true, le-leb, eqb-true, eqb-false}
+use Rattle.std.proofs.lemmas.Bool.{cases_lt, lt-ltb, le-ltb, ltb-true, leb-true, le-leb, eqb-true}
 use Rattle.std.proofs.lemmas.Nat.{be_bytes_2, be_bytes_4, be_bytes_8}
 use Rattle.std.proofs.lemmas.List.{length-append, length-take, take-append-drop, take_at, drop_at, get_or-drop}
 use Rattle.std.proofs.lemmas.Str.{IsUtf8-nil}
-use Rattle.byteorder.specs.Endian.{big_number, big_bytes, big_from}
+use Rattle.byteorder.specs.Endian.{big_number, big_bytes}
 use Rattle.byteorder.specs.Numbers.{big_from-take, big_from-lt, big_number-reads_back, length-bytes_high_first}
 use Rattle.room_base.specs.Numbers.{max_moment}
 use Rattle.room_base.specs.Text.{HasLength, IsName, IsPathText}
@@ -16,10 +15,10 @@ use Rattle.save_stream.specs.Spelling.{IsNameTo, IsBelow, short_text, long_text,
 use Rattle.save_stream.specs.Standing.{AreBytes}
 use Rattle.save_stream.proofs.Again.{is_name-again, is_path-again, is_below-again, both}
 use Rattle.save_stream.proofs.Sound.{IsBytes-take, is_name-is, is_path-is, is_below-is, both-true}
-use Rattle.catalog_text.specs.Reading.{Part, ◌>>=◌, checked}
-use Rattle.catalog_text.specs.Spelled.{Took, StopsIn, Judged, Reads}
+use Rattle.catalog_text.specs.Reading.{checked}
+use Rattle.catalog_text.specs.Spelled.{Took, Judged, Reads}
 use Rattle.catalog_text.specs.Fields.{number_bytes, number_at, byte_text, byte_at, bytes_at, is_within, number_within_at, byte_within_at, number_from_at, number_above_at, given_number_at, number_if_at, moment_at, coded, coded_part, code_at, flags, flag_byte, text_at, name_at, path_at}
-use Rattle.catalog_text.proofs.Steps.{Stands, start, begin, took, after, then-found, end-found, end-again, checked-reads, reads-as}
+use Rattle.catalog_text.proofs.Steps.{start, begin, after, then-found, end-found, end-again, checked-reads, reads-as}
 
 AreBytes-drop : (n : ℕ) (bytes : List ℕ) → AreBytes bytes → AreBytes (drop n bytes)
 AreBytes-drop n bytes is i = rw get_or-drop (is (n + i))

@@ -1,16 +1,15 @@
 -- Heads of streams: what is read is spelled so and allowed, and what is allowed is read.
-use Rattle.std.proofs.Common.{◌≡◌, ℕ, ◌≤◌, ◌<◌, ◌^◌, Bool, true, false, eqb, nat_lt, List, [], ◌∷◌, ◌++◌, length, Ok, Err, refl, sym, ap, subst, ◌∙◌, eq-eqb, arith}
+use Rattle.std.proofs.Common.{◌≡◌, ℕ, ◌<◌, ◌^◌, true, eqb, nat_lt, List, ◌++◌, Ok, refl, sym, ap, subst, arith}
 use Rattle.std.proofs.lemmas.Bool.{eqb-true, lt-ltb, ltb-true}
 use Rattle.room_base.specs.Numbers.{max_moment}
-use Rattle.room_base.specs.Text.{IsName}
 use Rattle.save_stream.specs.Reading.{is_level}
 use Rattle.save_stream.specs.Spelling.{IsHead, head_text, number_text, short_text}
 use Rattle.save_stream.specs.declared.head.SetHead.{SetHead}
 use Rattle.save_stream.proofs.Again.{is_level-again}
 use Rattle.save_stream.proofs.Sound.{is_level-is}
 use Rattle.catalog_text.specs.Reading.{Part, checked}
-use Rattle.catalog_text.specs.Spelled.{Took, Judged, Reads}
-use Rattle.catalog_text.specs.Fields.{byte_text, byte_at, number_bytes, number_at, number_above_at, number_within_at, moment_at, name_at, text_at}
+use Rattle.catalog_text.specs.Spelled.{Took, Reads}
+use Rattle.catalog_text.specs.Fields.{byte_text, byte_at, number_bytes, number_at}
 use Rattle.catalog_text.specs.Heads.{head_at}
 use Rattle.catalog_text.proofs.Steps.{start, begin, took, after, then-found, judged-as, checked-reads, texts-same}
 use Rattle.catalog_text.proofs.Fields.{byte-reads, u64-reads, u64-above, u64-within, number-empty, moment-reads, name-reads, text-reads}

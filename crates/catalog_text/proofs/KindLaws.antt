@@ -3,9 +3,9 @@ use Rattle.std.proofs.Common.{◌≡◌, ℕ, suc, Bool, true, false, cond, eqb,
 use Rattle.std.specs.List.{AllByRecursion}
 use Rattle.std.proofs.lemmas.Bool.{eqb-true}
 use Rattle.save_stream.specs.Standing.{AreBytes}
-use Rattle.catalog_text.specs.Reading.{Part, ◌>>=◌}
-use Rattle.catalog_text.specs.Spelled.{Took, StopsIn, Judged, Reads}
-use Rattle.catalog_text.specs.Fields.{byte_text, byte_at}
+use Rattle.catalog_text.specs.Reading.{Part}
+use Rattle.catalog_text.specs.Spelled.{Took, Judged, Reads}
+use Rattle.catalog_text.specs.Fields.{byte_text}
 use Rattle.catalog_text.specs.Kinds.{Readers, chosen, by_kind_at}
 
 -- a reader reads the fields of its kind

@@ -1,10 +1,10 @@
 -- How long texts are.
-use Rattle.std.proofs.Common.{◌≡◌, ℕ, ◌+◌, List, [], ◌∷◌, ◌++◌, length, refl, ◌∙◌, ap, arith}
+use Rattle.std.proofs.Common.{◌≡◌, ℕ, ◌+◌, length, refl, arith}
 use Rattle.std.proofs.lemmas.List.{length-append}
 use Rattle.media_db.specs.declared.copies.Section.{Section}
 use Rattle.room_rules.specs.declared.schedule.Override.{Override}
 use Rattle.save_stream.specs.declared.entry.IndexEntry.{IndexEntry}
-use Rattle.save_stream.specs.Spelling.{short_number_text, short_text, long_text}
+use Rattle.save_stream.specs.Spelling.{short_number_text}
 use Rattle.catalog_text.specs.Fields.{number_bytes}
 use Rattle.catalog_text.specs.Sections.{section_text}
 use Rattle.catalog_text.specs.Entries.{entry_text}

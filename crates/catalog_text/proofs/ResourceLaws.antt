@@ -1,13 +1,12 @@
 -- Resources: what is read is spelled so and allowed, and what is allowed is read.
-use Rattle.std.proofs.Common.{◌≡◌, ℕ, ◌≤◌, ◌<◌, ◌^◌, Bool, true, false, nat_lt, nat_le, List, [], ◌∷◌, ◌++◌, length, Option, Some, None, Ok, refl, sym, ap, subst, ◌∙◌, arith}
-use Rattle.std.specs.Prelude.{◌&&◌, IfSome}
+use Rattle.std.proofs.Common.{◌≡◌, ℕ, ◌≤◌, ◌<◌, true, nat_le, List, [], ◌∷◌, ◌++◌, length, Some, Ok, refl, arith}
+use Rattle.std.specs.Prelude.{IfSome}
 use Rattle.std.specs.List.{AllByRecursion}
 use Rattle.std.specs.Ordering.{nat_cmp}
 use Rattle.std.specs.declared.cmp.Ordering.TheVariants.{Less}
 use Rattle.std.proofs.lemmas.Bool.{leb-true, le-leb}
 use Rattle.room_base.specs.Ordered.{Ascends}
 use Rattle.room_rules.specs.declared.group.Group.{Group}
-use Rattle.room_rules.specs.declared.group.Member.{Member}
 use Rattle.room_rules.specs.declared.policy.Policy.{Policy}
 use Rattle.room_rules.specs.declared.policy.Unit.TheVariants as units
 use Rattle.room_rules.specs.declared.policy.Unit as unit
@@ -25,15 +24,15 @@ use Rattle.catalog_change.specs.declared.resource.Resource.{Resource}
 use Rattle.catalog_change.specs.declared.resource.Resource.TheVariants as resources
 use Rattle.catalog_change.specs.declared.resource.ResourceKind.{ResourceKind}
 use Rattle.catalog_change.specs.declared.resource.ResourceKind.TheVariants as kinds
-use Rattle.catalog_change.specs.Resources.{kind_of, max_day, day_of, IsShortName, IsSetName, IsListTo, IsOverride, IsMember, IsPolicy, IsPool, IsClient, IsSchedule, IsGroup, IsResource}
+use Rattle.catalog_change.specs.Resources.{kind_of, max_day, day_of, IsListTo, IsOverride, IsMember, IsPolicy, IsPool, IsClient, IsSchedule, IsGroup, IsResource}
 use Rattle.catalog_text.specs.Spelled.{Took, Judged, Reads}
-use Rattle.catalog_text.specs.Fields.{byte_text, number_bytes, number_at, coded, code_at}
-use Rattle.catalog_text.specs.Lists.{AllBehind, last_item, by_item, IsAbove}
+use Rattle.catalog_text.specs.Fields.{byte_text, coded, code_at}
+use Rattle.catalog_text.specs.Lists.{last_item}
 use Rattle.catalog_text.specs.Kinds.{chosen}
 use Rattle.catalog_text.specs.Resources.{resource_kinds, resource_byte, unit_kinds, unit_byte, period_kinds, period_byte, level_at, action_at, names_at, names_text, levels_at, levels_text, actions_at, actions_text, is_next_day, override_text, override_at, overrides_at, overrides_text, member_text, member_at, members_at, members_text, fields_text, policy_at, pool_at, client_at, schedule_at, group_at, resource_text, resource_readers, resource_at, FitsResource}
 use Rattle.catalog_text.proofs.Steps.{start, begin, took, after, then-found, checked-reads, reads-as}
 use Rattle.catalog_text.proofs.Fields.{u16-within, u32-within, u32-reads, byte-within, number-empty, name-reads, code-reads}
-use Rattle.catalog_text.proofs.Lists.{list-reads, IsListOf}
+use Rattle.catalog_text.proofs.Lists.{list-reads}
 use Rattle.catalog_text.proofs.Behind.{each-is, each-behind, Rises, rising-is, rising-behind, above-is, above-again}
 use Rattle.catalog_text.proofs.KindLaws.{by_kind-reads}
 

@@ -1,5 +1,5 @@
 -- How long resources are.
-use Rattle.std.proofs.Common.{◌≡◌, ℕ, ◌+◌, ◌*◌, ◌≤◌, ◌<◌, ◌^◌, List, [], ◌∷◌, ◌++◌, length, refl, ◌∙◌, ap, sym, arith}
+use Rattle.std.proofs.Common.{◌≡◌, ℕ, ◌+◌, ◌*◌, ◌≤◌, ◌<◌, ◌^◌, List, [], ◌∷◌, length, refl, ◌∙◌, ap, arith}
 use Rattle.std.specs.List.{flat_map, AllByRecursion}
 use Rattle.std.proofs.lemmas.List.{length-append}
 use Rattle.std.proofs.lemmas.List.Concat.{flat_map-cons}
@@ -14,8 +14,8 @@ use Rattle.catalog_change.specs.declared.resource.Client.{Client}
 use Rattle.catalog_change.specs.declared.resource.Resource.{Resource}
 use Rattle.catalog_change.specs.declared.resource.Resource.TheVariants as resources
 use Rattle.catalog_change.specs.Resources.{IsResource, IsMember}
-use Rattle.catalog_text.specs.Fields.{byte_text, number_bytes}
-use Rattle.catalog_text.specs.Resources.{member_text, override_text, names_text, resource_text}
+use Rattle.catalog_text.specs.Fields.{byte_text}
+use Rattle.catalog_text.specs.Resources.{member_text, override_text, resource_text}
 use Rattle.catalog_text.proofs.Lengths.{u16_length, u32_length, length_override}
 
 -- items of at most so many bytes

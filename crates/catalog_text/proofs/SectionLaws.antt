@@ -1,11 +1,10 @@
 -- Sections: what is read is spelled so, and sections that follow each other are those that are read.
-use Rattle.std.proofs.Common.{◌≡◌, ℕ, ◌≤◌, ◌<◌, ◌^◌, List, [], ◌∷◌, ◌++◌, length, Option, Ok, refl, sym, ap, subst, ◌∙◌, arith}
+use Rattle.std.proofs.Common.{◌≡◌, ℕ, List, [], ◌∷◌, ◌++◌, sym, ap, subst, arith}
 use Rattle.std.specs.List.{AllByRecursion}
 use Rattle.media_db.specs.declared.copies.Section.{Section}
 use Rattle.catalog_change.specs.Changes.{IsSection, FollowFrom, AreSections}
-use Rattle.catalog_text.specs.Spelled.{Took, Judged, Reads}
-use Rattle.catalog_text.specs.Fields.{number_bytes}
-use Rattle.catalog_text.specs.Lists.{AllBehind, last_item, by_item}
+use Rattle.catalog_text.specs.Spelled.{Reads}
+use Rattle.catalog_text.specs.Lists.{AllBehind, by_item}
 use Rattle.catalog_text.specs.Sections.{end_of, section_text, section_at, sections_text, sections_at, FitsSection}
 use Rattle.catalog_text.proofs.Steps.{start, begin, took, after, then-found, reads-as}
 use Rattle.catalog_text.proofs.Fields.{u32-within, u64-reads, u64-from, u64-above, u64-given}

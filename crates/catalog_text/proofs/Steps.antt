@@ -1,9 +1,8 @@
 -- Fields one behind the other: how what is read of each makes what is read of all.
-use Rattle.std.proofs.Common.{◌≡◌, ℕ, Bool, true, false, cond, List, [], ◌∷◌, ◌++◌, length, Result, Ok, Err, refl, sym, ap, subst, ◌∙◌, append_assoc, arith}
-use Rattle.std.proofs.lemmas.List.{append-nil, length-append}
+use Rattle.std.proofs.Common.{◌≡◌, ℕ, Bool, true, false, cond, List, [], ◌++◌, length, Ok, Err, refl, sym, ap, subst, ◌∙◌, append_assoc}
 use Rattle.save_stream.specs.Standing.{AreBytes}
 use Rattle.catalog_text.specs.Reading.{Part, ◌>>=◌, checked}
-use Rattle.catalog_text.specs.Spelled.{Took, StopsIn, Judged, Reads}
+use Rattle.catalog_text.specs.Spelled.{Took, Judged, Reads}
 
 -- Behind a front reading goes on so, whatever follows.
 pub record Goes {Y : Type 0} (top : List ℕ → Part Y) (front : List ℕ) (on : List ℕ → Part Y) : Type 0 where

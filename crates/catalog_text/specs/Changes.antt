@@ -1,5 +1,5 @@
 -- Changes as bytes: a kind byte and fields, behind a moment.
-use Rattle.std.specs.Prelude.{◌≡◌, ℕ, ◌≤◌, ◌<◌, ◌^◌, Bool, true, ◌==◌, nat_lt}
+use Rattle.std.specs.Prelude.{◌≡◌, ℕ, ◌<◌, ◌^◌, Bool, true, nat_lt}
 use Rattle.std.specs.Prelude.{List, [], ◌∷◌, ◌++◌, length, Ok}
 use Rattle.std.specs.List.{AllByRecursion}
 use Rattle.room_base.specs.declared.numbers.Ssid.{Ssid}

@@ -8,7 +8,7 @@ use Rattle.catalog_change.specs.declared.change.Change.{Change}
 use Rattle.catalog_text.specs.declared.fault.DecodeFault.{DecodeFault}
 use Rattle.catalog_text.specs.declared.fault.DecodeFault.TheVariants as faults
 use Rattle.catalog_text.specs.Reading.{Part}
-use Rattle.catalog_text.specs.Changes.{Stamped, FitsChange, change_at, change_text}
+use Rattle.catalog_text.specs.Changes.{FitsChange, change_at, change_text}
 
 -- a change that is allowed, at a moment that may be written
 pub record IsStamped (moment : ℕ) (change : Change) : Type 0 where

@@ -1,5 +1,5 @@
 -- Indexes of save sets as bytes.
-use Rattle.std.specs.Prelude.{◌≡◌, ℕ, ◌<◌, ◌^◌, Bool, true, false, List, [], ◌∷◌, ◌++◌, Ok}
+use Rattle.std.specs.Prelude.{ℕ, ◌<◌, ◌^◌, Bool, true, false, List, [], ◌∷◌, ◌++◌, Ok}
 use Rattle.save_stream.specs.Spelling.{long_text}
 use Rattle.save_stream.specs.declared.entry.EntryKind.{EntryKind}
 use Rattle.save_stream.specs.declared.entry.EntryKind.TheVariants as kinds

@@ -1,19 +1,14 @@
 -- Resources as bytes.
-use Rattle.std.specs.Prelude.{◌≡◌, ℕ, ◌≤◌, ◌<◌, ◌^◌, Bool, true, ◌&&◌, nat_lt, nat_le}
-use Rattle.std.specs.Prelude.{List, [], ◌∷◌, ◌++◌, length, Ok}
+use Rattle.std.specs.Prelude.{ℕ, ◌≤◌, Bool, true, ◌&&◌, nat_lt, nat_le}
+use Rattle.std.specs.Prelude.{List, [], ◌∷◌, ◌++◌, Ok}
 use Rattle.std.specs.List.{AllByRecursion}
-use Rattle.room_rules.specs.declared.group.Group.{Group}
 use Rattle.room_rules.specs.declared.group.Member.{Member}
-use Rattle.room_rules.specs.declared.policy.Policy.{Policy}
 use Rattle.room_rules.specs.declared.policy.Unit.TheVariants as units
 use Rattle.room_rules.specs.declared.policy.Unit as unit
-use Rattle.room_rules.specs.declared.pool.Pool.{Pool}
 use Rattle.room_rules.specs.declared.schedule.Override.{Override}
 use Rattle.room_rules.specs.declared.schedule.Period.{Period}
 use Rattle.room_rules.specs.declared.schedule.Period.TheVariants as periods
-use Rattle.room_rules.specs.declared.schedule.Schedule.{Schedule}
 use Rattle.save_stream.specs.Spelling.{short_text}
-use Rattle.catalog_change.specs.declared.resource.Client.{Client}
 use Rattle.catalog_change.specs.declared.resource.Resource.{Resource}
 use Rattle.catalog_change.specs.declared.resource.Resource.TheVariants as resources
 use Rattle.catalog_change.specs.declared.resource.ResourceKind.{ResourceKind}

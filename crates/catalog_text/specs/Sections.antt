@@ -1,8 +1,6 @@
 -- Sections of copies as bytes.
-use Rattle.std.specs.Prelude.{◌≡◌, ℕ, ◌<◌, ◌^◌, List, ◌++◌, Ok}
-use Rattle.std.specs.List.{AllByRecursion}
+use Rattle.std.specs.Prelude.{ℕ, ◌<◌, ◌^◌, List, ◌++◌, Ok}
 use Rattle.media_db.specs.declared.copies.Section.{Section}
-use Rattle.catalog_change.specs.Changes.{IsSection}
 use Rattle.catalog_text.specs.Reading.{Part, ◌>>=◌}
 use Rattle.catalog_text.specs.Fields.{
   number_bytes,

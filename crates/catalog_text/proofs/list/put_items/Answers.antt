@@ -1,4 +1,4 @@
-use Rattle.std.proofs.Common.{◌≡◌, length, get_or, ap, sym, arith}
+use Rattle.std.proofs.Common.{◌≡◌, length, get_or, ap, arith}
 use Rattle.std.proofs.lemmas.List.Folds.{length-flat_map-take}
 use Rattle.catalog_text.proofs.list.put_items.Goals as goal
 
