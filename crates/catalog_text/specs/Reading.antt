@@ -1,8 +1,8 @@
 -- Reading fields from left to right. What is read is a value and the bytes behind it, or how many
 -- bytes there are from the first byte of the first field that isn't allowed on. A field that the
 -- bytes end in isn't allowed.
-use Rattle.std.specs.Prelude.{◌≡◌, ℕ, Bool, true, false, List, length, Result, Ok, Err, Option, Some, None}
-use Rattle.std.specs.Prelude.{if◌then◌else◌}
+use Rattle.std.specs.Prelude.{◌≡◌, ℕ, Bool, true, false, List, length, Result, Ok, Err, Option}
+use Rattle.std.specs.Prelude.{Some, None, if◌then◌else◌}
 use Rattle.catalog_text.specs.declared.fault.FieldFault.{FieldFault}
 use Rattle.catalog_text.specs.declared.fault.FieldFault.TheVariants as faults
 

@@ -170,7 +170,8 @@ fn put_stream(
 
 fn put_amended(into: &mut Vec<u8>, ssid: Ssid, browse: Moment, retain: Moment, hold: bool)
     requires { HasRoom into.old (fields_text (changes.Amended ssid browse retain hold)) }
-    ensures text { Appends into.old into.new (fields_text (changes.Amended ssid browse retain hold)) }
+    ensures text { Appends into.old into.new
+        (fields_text (changes.Amended ssid browse retain hold)) }
     ensures fits { FitsChange (changes.Amended ssid browse retain hold) }
 {
     put_u64(into, ssid.0);

@@ -23,6 +23,7 @@ pub fn allow(allowed: bool, bytes: &[u8]) -> Result<(), FieldFault>
     Ok(())
 }
 
+/// A byte.
 pub fn read_u8(bytes: &[u8]) -> Result<(u8, &[u8]), FieldFault>
     ensures { Gives (λ x. (x.0, x.1.now)) result (byte_at bytes.now) }
 {

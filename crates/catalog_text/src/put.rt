@@ -17,6 +17,7 @@ pub fn put_bytes(into: &mut Vec<u8>, bytes: &[u8])
     }
 }
 
+/// A byte.
 pub fn put_u8(into: &mut Vec<u8>, byte: u8)
     requires { HasRoom into.old (byte_text byte) }
     ensures { Appends into.old into.new (byte_text byte) }

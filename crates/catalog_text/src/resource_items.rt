@@ -20,6 +20,7 @@ use std::alloc::Global;
 /// The greatest day that an override may name: 31 December 9998.
 const MAX_DAY: u32 = 2_932_531;
 
+/// Levels, by their ranks.
 pub struct Levels;
 
 impl Format for Levels {
@@ -64,6 +65,7 @@ pub fn read_level(bytes: &[u8]) -> Result<(Level, &[u8]), FieldFault>
     Ok((level, rest))
 }
 
+/// Actions, by their bytes.
 pub struct Actions;
 
 impl Format for Actions {

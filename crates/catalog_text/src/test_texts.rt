@@ -100,8 +100,8 @@ pub(crate) static FIELDS: [u64; 38] = [
     168, 175, 183, 191, 199, 200, 202, 209, 217, 225, 233, 234, 236, 243, 251, 259,
 ];
 
-// Texts with one byte changed: the kind of the change, the offset of the byte, its new value, and the
-// place of the first field that isn't allowed then.
+// Texts with one byte changed: the kind of the change, the offset of the byte, its new value, and
+// the place of the first field that isn't allowed then.
 pub(crate) static DAMAGES: [(u8, usize, u8, u64); 49] = [
     (7, 0, 1, 0),
     (7, 8, 16, 8),
