@@ -1,0 +1,6 @@
+use Rattle.std.proofs.Common.{◌≡◌, ◌-◌, []}
+use Rattle.catalog_text.specs.Lists.{items_at}
+use Rattle.catalog_text.proofs.list.read_items.Given as goal
+
+abbrev pub invariant-loop : goal.invariant-loop
+invariant-loop g l = items_at g.F.Format.at (l.count - l.counter) l.items.items l.rest ≡ items_at g.F.Format.at l.count [] l.bytes
