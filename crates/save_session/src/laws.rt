@@ -14,7 +14,8 @@ ghost use Rattle.save_session.specs.declared.checked.Checked.TheVariants.{New, R
 ghost use Rattle.save_session.specs.Parts.{IsNextPart, AreSections};
 ghost use Rattle.save_session.specs.Runs.{AreLongestRuns, MayFollow, with_parts};
 ghost use Rattle.save_session.specs.Sessions.{AreOpenSessions, IsSession, SessionView};
-ghost use Rattle.save_session.specs.Sessions.{change_session, check_sent, close_session, digest_of, find_session};
+ghost use Rattle.save_session.specs.Sessions.{change_session, check_sent, close_session};
+ghost use Rattle.save_session.specs.Sessions.{digest_of, find_session};
 ghost use Rattle.save_session.specs.Sessions.{is_on, leave_drive, off_drive, placed_on, ssid_of};
 ghost use Rattle.save_session.specs.Sessions.{start_session, started, with_piece, with_pieces};
 
