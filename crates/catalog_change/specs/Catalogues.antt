@@ -27,8 +27,17 @@ use Rattle.catalog_change.specs.declared.resource.Client.{Client}
 use Rattle.catalog_change.specs.declared.slot.FilledSlot.{FilledSlot}
 use Rattle.catalog_change.specs.Changes.{AreEntries, AreSections, IsCapacity, IsCart, IsCount}
 use Rattle.catalog_change.specs.Resources.{
-  IsClient, IsGroup, IsPolicy, IsPool, IsSchedule, IsShortName, client_name, group_name,
-  policy_name, pool_name, schedule_name
+  IsClient,
+  IsGroup,
+  IsPolicy,
+  IsPool,
+  IsSchedule,
+  IsShortName,
+  client_name,
+  group_name,
+  policy_name,
+  pool_name,
+  schedule_name,
 }
 
 -- what a catalogue holds: a set without an index is as one with an index that has no entries

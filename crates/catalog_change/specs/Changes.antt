@@ -13,8 +13,21 @@ use Rattle.save_stream.specs.declared.entry.IndexEntry.{IndexEntry}
 use Rattle.save_stream.specs.Spelling.{IsHead, PathsAscend}
 use Rattle.catalog_change.specs.declared.change.Change.{Change}
 use Rattle.catalog_change.specs.declared.change.Change.TheVariants.{
-  Defined, Dropped, Loaded, Ejected, Labelled, Begun, Finished, Aborted, Amended, Deleted, Purged,
-  CopyBegun, CopyDone, IndexPart, FinishedParts
+  Defined,
+  Dropped,
+  Loaded,
+  Ejected,
+  Labelled,
+  Begun,
+  Finished,
+  Aborted,
+  Amended,
+  Deleted,
+  Purged,
+  CopyBegun,
+  CopyDone,
+  IndexPart,
+  FinishedParts,
 }
 use Rattle.catalog_change.specs.Resources.{IsResource, IsShortName}
 

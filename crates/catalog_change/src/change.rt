@@ -10,13 +10,23 @@ use save_stream::{IndexEntry, SetHead};
 #[derive(Debug, PartialEq, Drop)]
 pub enum Change {
     /// Resources were added.
-    Defined { resources: Items<Resource> },
+    Defined {
+        resources: Items<Resource>,
+    },
     /// A resource was removed.
-    Dropped { kind: ResourceKind, name: Name },
+    Dropped {
+        kind: ResourceKind,
+        name: Name,
+    },
     /// A cartridge was put into a slot.
-    Loaded { slot: u8, cart: Cart },
+    Loaded {
+        slot: u8,
+        cart: Cart,
+    },
     /// The cartridge of a slot was taken away.
-    Ejected { slot: u8 },
+    Ejected {
+        slot: u8,
+    },
     /// A volume lies on a cartridge. `was` is the label that the cartridge had, or 0.
     Labelled {
         volid: Volid,
@@ -26,7 +36,9 @@ pub enum Change {
         was: Volid,
     },
     /// A save began.
-    Begun { head: SetHead },
+    Begun {
+        head: SetHead,
+    },
     /// A save set is complete.
     Finished {
         ssid: Ssid,
@@ -37,7 +49,9 @@ pub enum Change {
         index: Items<IndexEntry>,
     },
     /// A save was given up.
-    Aborted { ssid: Ssid },
+    Aborted {
+        ssid: Ssid,
+    },
     /// A save set has other times, or another hold.
     Amended {
         ssid: Ssid,
@@ -46,11 +60,18 @@ pub enum Change {
         hold: bool,
     },
     /// A save set is no longer on record.
-    Deleted { ssid: Ssid },
+    Deleted {
+        ssid: Ssid,
+    },
     /// The indexes of these save sets were given up.
-    Purged { ssids: Items<Ssid> },
+    Purged {
+        ssids: Items<Ssid>,
+    },
     /// A copy of a save set is being made.
-    CopyBegun { ssid: Ssid, copy: CopyNo },
+    CopyBegun {
+        ssid: Ssid,
+        copy: CopyNo,
+    },
     /// A copy of a save set is done. Copy `removed` goes with that; 0 for none.
     CopyDone {
         ssid: Ssid,

@@ -11,4 +11,3 @@ mod slot;
 pub use change::Change;
 pub use resource::{Client, Resource, ResourceKind};
 pub use slot::FilledSlot;
-
