@@ -1,0 +1,5 @@
+pub mod Counting
+pub mod Stepping
+pub mod Defining
+pub mod Paths
+pub mod Found
