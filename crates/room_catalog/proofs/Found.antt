@@ -1,17 +1,22 @@
 -- What is found in the lists of a catalogue after a change.
-use Rattle.std.proofs.Common.{◌≡◌, ◌≢◌, ℕ, Bool, true, false, not, cond, List, [], ◌∷◌, Option, Some, None, refl, sym, subst, ap, ◌∙◌}
+use Rattle.std.proofs.Common.{◌≡◌, ◌≢◌, ℕ, Bool, true, false, not, cond, List, [], ◌∷◌, Option, Some, None, refl, sym, subst, ap, ◌∙◌, arith}
 use Rattle.std.specs.Prelude.{◌==◌, ◌||◌, filter_map, unwrap_or}
 use Rattle.std.specs.List.{AllByRecursion, cons_option, list_any}
 use Rattle.std.specs.Option.{option_and_then, option_map, option_or}
 use Rattle.std.specs.Cmp.{unsigned_ties}
-use Rattle.std.specs.Cmp.Lexicographic.{slice_cmp, nat_list_cmp_total}
-use Rattle.std.specs.Ordering.{eq_by_cmp, nat_cmp}
-use Rattle.std.specs.declared.cmp.Ordering.TheVariants.{Equal}
+use Rattle.std.specs.Cmp.Lexicographic.{slice_cmp, nat_list_cmp_total, same_text, texts_ties}
+use Rattle.std.specs.Ordering.{eq_by_cmp, is_eq, nat_cmp}
+use Rattle.std.specs.declared.cmp.Ordering.TheVariants.{Equal, Greater, Less}
+use Rattle.std.specs.declared.cmp.Ordering.{Ordering}
 use Rattle.std.proofs.lemmas.Bool.{cond-false, cond-true, true≢false}
+use Rattle.std.proofs.lemmas.Bool.Decides.{nat_tests}
 use Rattle.std.proofs.lemmas.Cmp.{nat_cmp_total}
+
 use Rattle.room_base.specs.declared.numbers.Ssid.{Ssid}
 use Rattle.room_base.specs.Ordered.{Ascends, AscendsFrom, find_by, put_by, remove_by}
-use Rattle.room_base.proofs.OrderedLaws.{found_put, found_removed, found_updated}
+use Rattle.room_base.proofs.OrderedLaws.{each_above, each_found, found_has_key, found_put, found_removed, found_updated}
+use Rattle.room_base.proofs.OrderedLists.{ascend_rest}
+use Rattle.room_base.proofs.OrderedNumbers.{equal_numbers, lesser_number}
 use Rattle.save_stream.specs.declared.entry.IndexEntry.{IndexEntry}
 use Rattle.media_db.specs.declared.records.Record.{Record}
 use Rattle.media_db.specs.declared.volumes.VolumeRec.{VolumeRec}
@@ -32,6 +37,11 @@ use Rattle.room_catalog.specs.Kinds.{find_named, put_each, put_named, remove_nam
 -- a choice by numbers that compare as equal is one by numbers that are equal
 pub by_number : {A : Type 0} (one other : ℕ) (x y : A) → cond (eq_by_cmp nat_cmp one other) x y ≡ cond (one == other) x y
 by_number one other x y = ap (λ (test : Bool). cond test x y) (sym (unsigned_ties one other))
+
+equal_is : (order : Ordering) → is_eq order ≡ true → order ≡ Equal
+equal_is Less e = absurd (true≢false (sym e))
+equal_is Equal e = refl
+equal_is Greater e = absurd (true≢false (sym e))
 
 -- ---- slots
 
@@ -93,6 +103,38 @@ found_purged number (set ∷ sets) ssid rows =
     ∙ ap (λ (found : Option Record). cond (is_among sets ssid) (option_map (purged_by number) found) found) once
     ∙ purged_or number (set.0 == ssid) (is_among sets ssid) (find_record ssid rows)
 
+-- ---- resources
+
+pub same_name : (one other : List ℕ) → slice_cmp nat_cmp one other ≡ Equal → one ≡ other
+same_name one other is = same_text one other (sym (texts_ties one other ∙ ap is_eq is))
+
+-- items of which no two have one name
+abbrev pub Apart : {X : Type 0} → (X → List ℕ) → List X → Type 0
+Apart name [] = Unit {0}
+Apart name (x ∷ xs) = AllByRecursion (λ other. name other ≢ name x) xs × Apart name xs
+
+none_named : {X : Type 0} (name : X → List ℕ) (x : X) (xs : List X) (wanted : List ℕ) → AllByRecursion (λ other. name other ≢ name x) xs → slice_cmp nat_cmp (name x) wanted ≡ Equal → find_named name wanted xs ≡ None
+none_named name x xs wanted apart is = by (find_named name wanted xs) refl
+  where
+    by : (found : Option _) → find_named name wanted xs ≡ found → found ≡ None
+    by None found = refl
+    by (Some other) found =
+        let has = same_name (name other) wanted (found_has_key nat_list_cmp_total name wanted other xs found) in
+        let other_name = each_found nat_list_cmp_total name (λ one. name one ≢ name x) wanted other xs apart found in
+        absurd (other_name (has ∙ sym (same_name (name x) wanted is)))
+
+pub found_each : {X : Type 0} (name : X → List ℕ) (items list : List X) (wanted : List ℕ) → Apart name items → find_named name wanted (put_each name items list) ≡ option_or (find_named name wanted items) (find_named name wanted list)
+found_each name [] list wanted apart = refl
+found_each name (x ∷ xs) list wanted apart =
+    found_each name xs (put_named name x list) wanted apart.1
+    ∙ ap (option_or (find_named name wanted xs)) (found_put nat_list_cmp_total name x wanted list)
+    ∙ by (eq_by_cmp (slice_cmp nat_cmp) (name x) wanted) refl
+  where
+    by : (here : Bool) → eq_by_cmp (slice_cmp nat_cmp) (name x) wanted ≡ here
+        → option_or (find_named name wanted xs) (cond here (Some x) (find_named name wanted list)) ≡ option_or (cond here (Some x) (find_named name wanted xs)) (find_named name wanted list)
+    by true is = ap (λ (found : Option _). option_or found (Some x)) (none_named name x xs wanted apart.0 (equal_is (slice_cmp nat_cmp (name x) wanted) is))
+    by false is = refl
+
 pub found_off : (gone : Option VolumeRec) (ssid : ℕ) (rows : List Record) → Ascends nat_cmp ssid_of rows → find_record ssid (records_off gone rows) ≡ row_off_gone gone (find_record ssid rows)
 found_off None ssid rows ascend = refl
 found_off (Some gone) ssid rows ascend = found_dropped gone.volid.0 ssid rows ascend
@@ -125,6 +167,18 @@ index_purged (one ∷ others) sets ssid =
     ∙ ap (λ (x : List IndexEntry). cond (is_among others ssid) [] x) (index_forgotten sets one ssid)
     ∙ forgotten_or (one.0 == ssid) (is_among others ssid) (index_in sets ssid)
 
+-- behind a record no other has its number
+none_behind : (row : Record) (rows : List Record) (ssid : ℕ) → Ascends nat_cmp ssid_of (row ∷ rows) → eq_by_cmp nat_cmp row.ssid.0 ssid ≡ true → find_record ssid rows ≡ None
+none_behind row rows ssid ascend is = by (find_record ssid rows) refl
+  where
+    by : (found : Option Record) → find_record ssid rows ≡ found → found ≡ None
+    by None found = refl
+    by (Some other) found =
+        let same : row.ssid.0 ≡ ssid = grind (arith, nat_tests, unsigned_ties row.ssid.0 ssid) in
+        let below = lesser_number row.ssid.0 other.ssid.0 (each_found nat_cmp_total ssid_of (λ one. nat_cmp row.ssid.0 one.ssid.0 ≡ Less) ssid other rows (each_above nat_cmp_total ssid_of row.ssid.0 rows ascend) found) in
+        let has = equal_numbers other.ssid.0 ssid (found_has_key nat_cmp_total ssid_of ssid other rows found) in
+        absurd (omega arith)
+
 -- the index of a record that goes is gone
 module _ (volid ssid : ℕ) where
   row_forgotten : (row : Record) (sets : List SetIndex) → index_in (forget_row_off volid row sets) ssid ≡ cond (has_copy_if_complete (without_copies_on volid row)) (index_in sets ssid) (cond (row.ssid.0 == ssid) [] (index_in sets ssid))
@@ -134,31 +188,56 @@ module _ (volid ssid : ℕ) where
       by true = refl
       by false = index_forgotten sets row.ssid ssid
 
-  -- an index that is gone stays so
-  gone_stays : (rows : List Record) (sets : List SetIndex) → index_in sets ssid ≡ [] → index_in (forget_off volid rows sets) ssid ≡ []
-  gone_stays [] sets none = none
-  gone_stays (row ∷ rows) sets none = gone_stays rows (forget_row_off volid row sets) (row_forgotten row sets ∙ by (has_copy_if_complete (without_copies_on volid row)) (row.ssid.0 == ssid))
-    where
-      by : (stays here : Bool) → cond stays (index_in sets ssid) (cond here [] (index_in sets ssid)) ≡ []
-      by true here = none
-      by false true = refl
-      by false false = none
+  beside : (stays here : Bool) (old : List IndexEntry) → here ≡ false → cond stays old (cond here [] old) ≡ old
+  beside true here old other = refl
+  beside false true old other = absurd (true≢false other)
+  beside false false old other = refl
 
   -- no record of the set: its index stays
   other_stays : (rows : List Record) (sets : List SetIndex) → find_record ssid rows ≡ None → index_in (forget_off volid rows sets) ssid ≡ index_in sets ssid
   other_stays [] sets none = refl
-  other_stays (row ∷ rows) sets none = by (eq_by_cmp nat_cmp row.ssid.0 ssid) refl none
+  other_stays (row ∷ rows) sets none = by (eq_by_cmp nat_cmp row.ssid.0 ssid) refl none (λ none. other_stays rows (forget_row_off volid row sets) none)
     where
-      by : (here : Bool) → eq_by_cmp nat_cmp row.ssid.0 ssid ≡ here → cond here (Some row) (find_record ssid rows) ≡ None → index_in (forget_off volid rows (forget_row_off volid row sets)) ssid ≡ index_in sets ssid
-      by true is none = cc
-      by false is none = other_stays rows (forget_row_off volid row sets) none ∙ row_forgotten row sets ∙ beside (has_copy_if_complete (without_copies_on volid row)) (row.ssid.0 == ssid) (unsigned_ties row.ssid.0 ssid ∙ is)
-        where
-          beside : (stays here : Bool) → here ≡ false → cond stays (index_in sets ssid) (cond here [] (index_in sets ssid)) ≡ index_in sets ssid
-          beside true here other = refl
-          beside false true other = absurd (true≢false other)
-          beside false false other = refl
+      by : (here : Bool) → eq_by_cmp nat_cmp row.ssid.0 ssid ≡ here → cond here (Some row) (find_record ssid rows) ≡ None
+          → (find_record ssid rows ≡ None → index_in (forget_off volid rows (forget_row_off volid row sets)) ssid ≡ index_in (forget_row_off volid row sets) ssid)
+          → index_in (forget_off volid rows (forget_row_off volid row sets)) ssid ≡ index_in sets ssid
+      by true is none rest = cc
+      by false is none rest = rest none ∙ row_forgotten row sets ∙ beside (has_copy_if_complete (without_copies_on volid row)) (row.ssid.0 == ssid) (index_in sets ssid) (unsigned_ties row.ssid.0 ssid ∙ is)
 
-  found_here : (row : Record) (rows : List Record) (sets : List SetIndex) → (here : Bool) → eq_by_cmp nat_cmp row.ssid.0 ssid ≡ here → find_record ssid rows ≡ None ⊎ (here ≡ false)
-      → index_in (forget_off volid rows sets) ssid ≡ index_of_row (option_and_then (row_off volid) (find_record ssid rows)) (index_in sets ssid)
-      → index_in (forget_off volid rows (forget_row_off volid row sets)) ssid ≡ index_of_row (option_and_then (row_off volid) (cond here (Some row) (find_record ssid rows))) (index_in sets ssid)
-  found_here row rows sets here is alone more = ?
+  -- what is left of an index
+  abbrev left : Option Record → List IndexEntry → List IndexEntry
+  left None old = old
+  left (Some row) old = index_of_row (row_off volid row) old
+
+  goes : (row : Record) (stays : Bool) (old : List IndexEntry) → cond stays old (cond true [] old) ≡ index_of_row (cond stays (Some row) None) old
+  goes row true old = refl
+  goes row false old = refl
+
+  pub left_off : (rows : List Record) (sets : List SetIndex) → Ascends nat_cmp ssid_of rows → index_in (forget_off volid rows sets) ssid ≡ left (find_record ssid rows) (index_in sets ssid)
+  left_off [] sets ascend = refl
+  left_off (row ∷ rows) sets ascend = by (eq_by_cmp nat_cmp row.ssid.0 ssid) refl (left_off rows (forget_row_off volid row sets) (ascend_rest nat_cmp_total ssid_of row rows ascend))
+    where
+      by : (here : Bool) → eq_by_cmp nat_cmp row.ssid.0 ssid ≡ here
+          → index_in (forget_off volid rows (forget_row_off volid row sets)) ssid ≡ left (find_record ssid rows) (index_in (forget_row_off volid row sets) ssid)
+          → index_in (forget_off volid rows (forget_row_off volid row sets)) ssid ≡ left (cond here (Some row) (find_record ssid rows)) (index_in sets ssid)
+      by true is rest =
+          let none = none_behind row rows ssid ascend is in
+          other_stays rows (forget_row_off volid row sets) none ∙ row_forgotten row sets
+          ∙ ap (λ (here : Bool). cond (has_copy_if_complete (without_copies_on volid row)) (index_in sets ssid) (cond here [] (index_in sets ssid))) (unsigned_ties row.ssid.0 ssid ∙ is)
+          ∙ goes (without_copies_on volid row) (has_copy_if_complete (without_copies_on volid row)) (index_in sets ssid)
+      by false is rest =
+          rest ∙ ap (left (find_record ssid rows)) (row_forgotten row sets ∙ beside (has_copy_if_complete (without_copies_on volid row)) (row.ssid.0 == ssid) (index_in sets ssid) (unsigned_ties row.ssid.0 ssid ∙ is))
+
+-- where a set without a record has no index
+pub index_off : (gone : Option VolumeRec) (rows : List Record) (sets : List SetIndex) (ssid : ℕ) → Ascends nat_cmp ssid_of rows → (find_record ssid rows ≡ None → index_in sets ssid ≡ [])
+    → index_in (sets_off gone rows sets) ssid ≡ index_of_row (row_off_gone gone (find_record ssid rows)) (index_in sets ssid)
+index_off None rows sets ssid ascend none = by (find_record ssid rows) none
+  where
+    by : (found : Option Record) → (found ≡ None → index_in sets ssid ≡ []) → index_in sets ssid ≡ index_of_row found (index_in sets ssid)
+    by None none = none refl
+    by (Some row) none = refl
+index_off (Some gone) rows sets ssid ascend none = left_off gone.volid.0 ssid rows sets ascend ∙ by (find_record ssid rows) none
+  where
+    by : (found : Option Record) → (found ≡ None → index_in sets ssid ≡ []) → left gone.volid.0 ssid found (index_in sets ssid) ≡ index_of_row (option_and_then (row_off gone.volid.0) found) (index_in sets ssid)
+    by None none = none refl
+    by (Some row) none = refl

@@ -3,3 +3,5 @@ pub mod Stepping
 pub mod Defining
 pub mod Paths
 pub mod Found
+pub mod Kinded
+pub mod Applied
