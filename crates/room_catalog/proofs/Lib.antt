@@ -5,3 +5,7 @@ pub mod Paths
 pub mod Found
 pub mod Kinded
 pub mod Applied
+pub mod Updated
+pub mod KeptRecords
+pub mod KeptVolumes
+pub mod KeptIndexes

@@ -1,6 +1,6 @@
 -- What a change makes of the lists of a catalogue, each update in its list.
 use Rattle.std.specs.Prelude.{ℕ, ◌+◌, List, [], ◌∷◌, filter_map, Option, Some, None, if◌then◌else◌}
-use Rattle.std.specs.Prelude.{not}
+use Rattle.std.specs.Prelude.{◌≡◌, length}
 use Rattle.std.specs.Ordering.{nat_cmp}
 use Rattle.room_base.specs.Ordered.{put_by, remove_by}
 use Rattle.room_base.specs.declared.numbers.Moment.{Moment}
@@ -192,3 +192,8 @@ change_by_kind number (FinishedParts ssid files bytes digest sections) lists = l
 abbrev pub changed : ℕ → Moment → Change → CatalogueLists → CatalogueLists
 changed number m change lists =
     change_by_kind number change (record lists { number = number; last_moment = m.0 })
+
+-- a digest has 32 bytes, as its type says
+abbrev pub HasWholeDigest : Change → Type 0
+HasWholeDigest (Finished ssid files bytes digest sections index) = length digest ≡ 32
+HasWholeDigest _ = Unit {0}

@@ -2,7 +2,7 @@
 
 ghost use Rattle.std.specs.Prelude.{◌≡◌, ◌<◌, [], vec_capacity};
 ghost use Rattle.catalog_change.specs.Changes.{IsChange};
-ghost use Rattle.room_catalog.specs.Changing.{change_by_kind, changed};
+ghost use Rattle.room_catalog.specs.Changing.{HasWholeDigest, changed};
 ghost use Rattle.room_catalog.specs.Fits.{FitsByKind};
 ghost use Rattle.room_catalog.specs.Held.{catalogue_of};
 ghost use Rattle.room_catalog.specs.Ready.{IsReady, TakesRoom};
@@ -43,6 +43,7 @@ impl Kept {
         ensures lists { (held_of self.new).lists
             ≡ changed number m change (held_of self.old).lists }
         ensures room { TakesRoom change (held_of self.old).room (held_of self.new).room }
+        ensures digest { HasWholeDigest change }
     {
         self.number = number;
         self.last_moment = m;

@@ -6,13 +6,16 @@ use Rattle.room_catalog.specs.Held.{CatalogueLists, catalogue_of}
 use Rattle.room_catalog.specs.Ready.{TakesRoom}
 use Rattle.room_catalog.specs.Views.{held_of}
 use Rattle.room_catalog.proofs.Applied.{IsNoPart, applied_to, closed_to, is_no_part, no_parts_after, parts_stay, takes_from_more}
+use Rattle.room_catalog.proofs.KeptRecords.{with_begun_copy_is}
+use Rattle.room_catalog.proofs.KeptVolumes.{laid_are}
+use Rattle.room_catalog.proofs.KeptIndexes.{same_indexes}
 use Rattle.room_catalog.proofs.catalogue.Catalogue.apply.Goals as goal
 
 pub invariant_of-self-in-FinishedParts : goal.invariant_of-self-in-FinishedParts
-invariant_of-self-in-FinishedParts c = ?
+invariant_of-self-in-FinishedParts c = let h = c.well_formed in ?
 
 pub invariant_of-self-in_default : goal.invariant_of-self-in_default
-invariant_of-self-in_default c = ?
+invariant_of-self-in_default c = let h = c.well_formed in let i = c.change-in_default.type_inv in ?
 
 pub returns-in-FinishedParts-clause-applied : goal.returns-in-FinishedParts-clause-applied
 returns-in-FinishedParts-clause-applied c =
