@@ -9,3 +9,5 @@ pub mod Updated
 pub mod KeptRecords
 pub mod KeptVolumes
 pub mod KeptIndexes
+pub mod KeptResources
+pub mod KeptCatalogue

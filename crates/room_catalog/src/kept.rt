@@ -43,6 +43,7 @@ impl Kept {
         ensures lists { (held_of self.new).lists
             ≡ changed number m change (held_of self.old).lists }
         ensures room { TakesRoom change (held_of self.old).room (held_of self.new).room }
+        ensures kept { IsChange change }
         ensures digest { HasWholeDigest change }
     {
         self.number = number;

@@ -6,9 +6,7 @@ use Rattle.room_catalog.specs.Held.{CatalogueLists, catalogue_of}
 use Rattle.room_catalog.specs.Ready.{TakesRoom}
 use Rattle.room_catalog.specs.Views.{held_of}
 use Rattle.room_catalog.proofs.Applied.{IsNoPart, applied_to, closed_to, is_no_part, no_parts_after, parts_stay, takes_from_more}
-use Rattle.room_catalog.proofs.KeptRecords.{with_begun_copy_is}
-use Rattle.room_catalog.proofs.KeptVolumes.{laid_are}
-use Rattle.room_catalog.proofs.KeptIndexes.{same_indexes}
+use Rattle.room_catalog.proofs.KeptCatalogue.{stays_allowed}
 use Rattle.room_catalog.proofs.catalogue.Catalogue.apply.Goals as goal
 
 pub invariant_of-self-in-FinishedParts : goal.invariant_of-self-in-FinishedParts
