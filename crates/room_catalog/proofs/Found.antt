@@ -11,7 +11,6 @@ use Rattle.std.specs.declared.cmp.Ordering.{Ordering}
 use Rattle.std.proofs.lemmas.Bool.{cond-false, cond-true, true≢false}
 use Rattle.std.proofs.lemmas.Bool.Decides.{nat_tests}
 use Rattle.std.proofs.lemmas.Cmp.{nat_cmp_total}
-
 use Rattle.room_base.specs.declared.numbers.Ssid.{Ssid}
 use Rattle.room_base.specs.Ordered.{Ascends, AscendsFrom, find_by, put_by, remove_by}
 use Rattle.room_base.proofs.OrderedLaws.{each_above, each_found, found_has_key, found_put, found_removed, found_updated}

@@ -36,8 +36,16 @@ use Rattle.room_catalog.proofs.KeptVolumes.{emptied_are, filled_are, laid_are}
 moved : (a : Catalogue) (number last_moment next_ssid next_volid : ℕ) (slots : List FilledSlot) (volumes : List VolumeRec) (records : List Record) (index : ℕ → List IndexEntry) → HasResources a
     → HasResources (record a { number = number; last_moment = last_moment; next_ssid = next_ssid; next_volid = next_volid; slots = slots; volumes = volumes; records = records; index = index })
 moved a number last_moment next_ssid next_volid slots volumes records index is = record {
-  policies = is.policies; pools = is.pools; clients = is.clients; schedules = is.schedules; groups = is.groups;
-  count = is.count; kept = is.kept; scheduled = is.scheduled; default = is.default; room = is.room;
+  policies = is.policies;
+  pools = is.pools;
+  clients = is.clients;
+  schedules = is.schedules;
+  groups = is.groups;
+  count = is.count;
+  kept = is.kept;
+  scheduled = is.scheduled;
+  default = is.default;
+  room = is.room;
 }
 
 -- what holds of what is found holds of the record that is found

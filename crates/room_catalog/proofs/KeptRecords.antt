@@ -64,14 +64,25 @@ module _ (next : ℕ) (row : Record) (is : IsRecord next row) where
       let other = amended browse retain hold number row in
       record {
         head = record {
-          ssid = is.head.ssid; base = is.head.base; level = is.head.level; full = is.head.full; saved = is.head.saved;
+          ssid = is.head.ssid;
+          base = is.head.base;
+          level = is.head.level;
+          full = is.head.full;
+          saved = is.head.saved;
           browse = omega arith;
           retain = (ordered, within);
-          client = is.head.client; set = is.head.set; group = is.head.group; pool = is.head.pool;
+          client = is.head.client;
+          set = is.head.set;
+          group = is.head.group;
+          pool = is.head.pool;
         };
         drawn = is.drawn;
         bytes = longer_as row.state row other (length-head_text (head_of row) ∙ sym (length-head_text (head_of other))) refl is.bytes;
-        digest = is.digest; each = is.each; order = is.order; count = is.count; state = is.state;
+        digest = is.digest;
+        each = is.each;
+        order = is.order;
+        count = is.count;
+        state = is.state;
       }
 
   begun_copies : IsBegun row → row.copies ≡ begun_copy (record { 0 = 1 }) ∷ []
@@ -148,6 +159,7 @@ module _ (next : ℕ) (row : Record) (is : IsRecord next row) where
         kept_or : (keep : Bool) (rest : List SetCopy) → has_done rest ≡ true → has_done (cond keep (copy ∷ rest) rest) ≡ true
         kept_or true rest done = or_true (is_done copy.state) (has_done rest) done
         kept_or false rest done = done
+
         by : (here : Bool) → eq_by_cmp nat_cmp copy.no.0 number ≡ here
             → (Any Numbered list → has_done (without_copy removed (with_copy_done number sections list)) ≡ true)
             → has_done (without_copy removed (cond here (record copy { state = copies.Done; sections = sections } ∷ list) (copy ∷ with_copy_done number sections list))) ≡ true
@@ -234,7 +246,12 @@ module _ (next : ℕ) (rows : List Record) (are : HasRecords next rows) where
         (each_weaker (IsRecord next) (IsRecord (head.ssid.0 + 1)) (λ row of. record {
           head = of.head;
           drawn = drawn_more max_number next (head.ssid.0 + 1) row.ssid.0 of.drawn (omega arith) (omega arith);
-          bytes = of.bytes; digest = of.digest; each = of.each; order = of.order; count = of.count; state = of.state;
+          bytes = of.bytes;
+          digest = of.digest;
+          each = of.each;
+          order = of.order;
+          count = of.count;
+          state = of.state;
         }) rows are.each);
     order = ascends_put nat_cmp_total ssid_of rows (begun_row head) are.order;
     count = omega (arith, room, length_put nat_cmp_total ssid_of (begun_row head) rows);

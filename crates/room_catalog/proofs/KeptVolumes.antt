@@ -96,7 +96,9 @@ laid_are next volumes volume has some drawn below cart pool capacity room =
     let more = each_weaker (IsVolume next) (IsVolume (volume.volid.0 + 1)) (λ one of. record {
       volid = of.volid;
       drawn = later next volume.volid.0 one.volid.0 of.drawn below drawn;
-      cart = of.cart; pool = of.pool; capacity = of.capacity;
+      cart = of.cart;
+      pool = of.pool;
+      capacity = of.capacity;
     }) (volumes_off (volume_on volume.cart.0 volumes) volumes) left.each in
     record {
       each = each_put nat_cmp_total volid_of (IsVolume (volume.volid.0 + 1)) rest volume (record { volid = some; drawn = inl (omega arith); cart = cart; pool = pool; capacity = capacity }) more;

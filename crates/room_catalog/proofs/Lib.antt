@@ -11,3 +11,4 @@ pub mod KeptVolumes
 pub mod KeptIndexes
 pub mod KeptResources
 pub mod KeptCatalogue
+pub mod Opening

@@ -85,9 +85,7 @@ impl PendingParts {
         ensures { IsTrue result ↔ PathsAscend (self.now.parts.entries ++ index.now) }
     {
         match (self.entries.last(), index.first()) {
-            (Some(last), Some(first)) => {
-                last.path.as_bytes().cmp(first.path.as_bytes()).is_lt()
-            }
+            (Some(last), Some(first)) => { last.path.as_bytes().cmp(first.path.as_bytes()).is_lt() }
             _ => true,
         }
     }
