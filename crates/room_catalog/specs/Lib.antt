@@ -7,3 +7,4 @@ pub mod Changing
 pub mod Views
 pub mod Invariant
 pub mod Counts
+pub mod Alike

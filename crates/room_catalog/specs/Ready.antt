@@ -1,21 +1,20 @@
 -- What a change that is applied takes of the room, and when it is ready.
-use Rattle.std.specs.Prelude.{◌⊎◌, ℕ, ◌+◌, ◌*◌, ◌≤◌, ◌<◌, List, [], length, filter_map, IsSome}
-use Rattle.client_index.specs.Sets.{entries_of}
+use Rattle.std.specs.Prelude.{◌≡◌, ℕ, ◌+◌, ◌*◌, ◌≤◌, ◌<◌, List, [], length, filter_map}
 use Rattle.catalog_change.specs.declared.change.Change.{Change}
 use Rattle.catalog_change.specs.declared.change.Change.TheVariants.{
-  Defined,
-  Labelled,
   Begun,
-  Finished,
   CopyBegun,
-  IndexPart,
+  CopyDone,
+  Defined,
+  Finished,
   FinishedParts,
+  IndexPart,
+  Labelled,
   Loaded,
 }
 use Rattle.catalog_change.specs.declared.resource.Resource.{Resource}
 use Rattle.catalog_change.specs.Changes.{IsCount, max_part}
 use Rattle.catalog_change.specs.Catalogues.{resource_count}
-use Rattle.room_base.specs.declared.numbers.Ssid.{Ssid}
 use Rattle.room_catalog.specs.Fits.{max_copies}
 use Rattle.room_catalog.specs.Held.{
   CatalogueLists,
@@ -46,10 +45,6 @@ pub record KeepsRoomBeside (new : List Resource) (before after : ResourceRoom) :
 
 -- ---- changes
 
--- an index can be put for the set
-abbrev pub HasIndexRoom : HeldCatalogue → Ssid → Type 0
-HasIndexRoom held ssid = (0 < held.room.indexes) ⊎ IsSome (entries_of held.lists.sets ssid)
-
 -- The change can be applied without taking memory, and each count stays one of four bytes.
 abbrev pub IsReady : HeldCatalogue → Change → Type 0
 IsReady held (Defined new) =
@@ -60,10 +55,12 @@ IsReady held (Labelled volid cart pool capacity was) =
     (0 < held.room.volumes) × IsCount (length held.lists.volumes + 1)
 IsReady held (Begun head) =
     (0 < held.room.records) × (0 < held.room.copies) × IsCount (length held.lists.records + 1)
-IsReady held (Finished ssid files bytes digest sections index) = HasIndexRoom held ssid
+IsReady held (Finished ssid files bytes digest sections index) =
+    0 < held.room.indexes
 IsReady held (CopyBegun ssid copy) = max_copies ≤ held.room.copies
 IsReady held (IndexPart ssid part index) = max_part * part + length index ≤ held.room.entries
-IsReady held (FinishedParts ssid files bytes digest sections) = HasIndexRoom held ssid
+IsReady held (FinishedParts ssid files bytes digest sections) =
+    0 < held.room.indexes
 IsReady held _ = Unit {0}
 
 -- ---- what it takes
@@ -119,3 +116,11 @@ pub record KeepsRoom (before after : CatalogueRoom) : Type 0 where
   pub indexes : before.indexes ≤ after.indexes
   pub entries : before.entries ≤ after.entries
   pub copies : before.copies ≤ after.copies
+
+-- the second change stays ready when the first is applied
+abbrev pub MayGoBefore : Change → Change → Type 0
+MayGoBefore first (Finished ssid files bytes digest sections index) = indexes_taken first ≡ 0
+MayGoBefore first (FinishedParts ssid files bytes digest sections) = indexes_taken first ≡ 0
+MayGoBefore first (IndexPart ssid part index) = entries_left first 1 ≡ 1
+MayGoBefore first (CopyDone ssid copy sections removed) = Unit {0}
+MayGoBefore first _ = ⊥

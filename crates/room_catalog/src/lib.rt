@@ -9,6 +9,7 @@ mod copy_room;
 mod counts;
 mod fitting;
 mod kept;
+mod laws;
 mod named;
 mod parts;
 mod preparing;
@@ -19,6 +20,10 @@ mod volumes;
 
 pub use catalog_change::{Change, Client, FilledSlot, Resource, ResourceKind};
 pub use catalogue::Catalogue;
+pub use laws::{catalogues_are_what_is_found, prepared_changes_stay_ready};
 pub use room_rules::{
     Action, Group, Member, Override, Period, Planned, Policy, Pool, Schedule, Unit,
 };
+
+#[cfg(test)]
+mod tests;
