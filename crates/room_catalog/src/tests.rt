@@ -183,6 +183,15 @@ fn drop_named(
     step(catalogue, change)
 }
 
+// Of these, which are in use, none can be dropped.
+fn drop_used(alloc: Global, catalogue: &mut Catalogue) -> Result<[bool; 4], Memory> {
+    let policy = drop_named(alloc, catalogue, ResourceKind::Policy, "Month")?;
+    let pool = drop_named(alloc, catalogue, ResourceKind::Pool, "Default")?;
+    let client = drop_named(alloc, catalogue, ResourceKind::Client, "beta")?;
+    let schedule = drop_named(alloc, catalogue, ResourceKind::Schedule, "Work")?;
+    Ok([policy, pool, client, schedule])
+}
+
 #[test]
 fn resources_are_defined_and_dropped(rt: HostRuntime) -> Result<(), Fail> {
     let alloc = rt.alloc();
@@ -190,15 +199,13 @@ fn resources_are_defined_and_dropped(rt: HostRuntime) -> Result<(), Fail> {
     assert_eq!(rt; define(alloc, &mut catalogue)?, [true, false, true]);
     assert_eq!(rt; define(alloc, &mut catalogue)?, [false, false, false]);
     assert!(rt; !define_twice(alloc, &mut catalogue)?);
-    assert_eq!(rt; (catalogue.number(), catalogue.pools().len()), (2, 2));
-    assert!(rt; catalogue.group(b"nightly").is_some() && catalogue.schedule(b"Work").is_some());
-    assert!(rt; !drop_named(alloc, &mut catalogue, ResourceKind::Policy, "Month")?);
-    assert!(rt; !drop_named(alloc, &mut catalogue, ResourceKind::Pool, "Default")?);
-    assert!(rt; !drop_named(alloc, &mut catalogue, ResourceKind::Client, "beta")?);
-    assert!(rt; !drop_named(alloc, &mut catalogue, ResourceKind::Schedule, "Work")?);
+    assert_eq!(rt;
+        drop_used(alloc, &mut catalogue)?,
+        [false, false, false, false]
+    );
     assert!(rt; drop_named(alloc, &mut catalogue, ResourceKind::Group, "nightly")?);
     assert!(rt; drop_named(alloc, &mut catalogue, ResourceKind::Client, "beta")?);
-    assert!(rt; catalogue.client(b"beta").is_none() && catalogue.group(b"nightly").is_none());
+    assert_eq!(rt; (catalogue.number(), catalogue.clients().len()), (4, 1));
     Ok(())
 }
 
@@ -343,62 +350,74 @@ fn amend(catalogue: &mut Catalogue, browse: u64, retain: u64) -> Result<bool, Me
     step(catalogue, change)
 }
 
-#[test]
-fn a_save_is_kept_copied_and_purged(rt: HostRuntime) -> Result<(), Fail> {
-    let alloc = rt.alloc();
+// A record that is begun, and one that is complete, with one file.
+static BEGUN: (RecordState, usize, u32, u64, usize) = (RecordState::Begun, 1, 2, 0, 0);
+
+static COMPLETE: (RecordState, usize, u32, u64, usize) = (RecordState::Complete, 1, 2, 0, 1);
+
+// A room with cartridge 7 in slot 3, volume 1 on it, and one save.
+fn saved(alloc: Global) -> Result<Catalogue, Memory> {
     let mut catalogue = Catalogue::opening(alloc)?;
-    assert!(rt; load(&mut catalogue, 3, 7)? && label(alloc, &mut catalogue, 1)?);
+    let loaded = load(&mut catalogue, 3, 7)?;
+    let labelled = label(alloc, &mut catalogue, 1)?;
+    let begun = begin(alloc, &mut catalogue, 1)?;
+    let short = finish(alloc, &mut catalogue, 1, 70)?;
+    let finished = finish(alloc, &mut catalogue, 1, 140)?;
+    if loaded && labelled && begun && !short && finished {
+        return Ok(catalogue);
+    }
+    Err(Memory)
+}
+
+#[test]
+fn a_save_is_kept_and_copied(rt: HostRuntime) -> Result<(), Fail> {
+    let alloc = rt.alloc();
+    let mut catalogue = saved(alloc)?;
     assert_eq!(rt;
         (catalogue.cart_in(3), catalogue.cart_in(4)),
         (Some(Cart(7)), None)
     );
-    assert!(rt; begin(alloc, &mut catalogue, 1)?);
-    assert_eq!(rt;
-        seen_of(&catalogue, 1),
-        Some((RecordState::Begun, 1, 2, 0, 0))
-    );
-    assert!(rt; !finish(alloc, &mut catalogue, 1, 70)?);
-    assert!(rt; finish(alloc, &mut catalogue, 1, 140)?);
-    assert_eq!(rt;
-        seen_of(&catalogue, 1),
-        Some((RecordState::Complete, 1, 2, 0, 1))
-    );
+    assert_eq!(rt; seen_of(&catalogue, 1), Some(COMPLETE));
     assert_eq!(rt; copy(alloc, &mut catalogue, 1)?, [true, true]);
     assert_eq!(rt;
         seen_of(&catalogue, 1),
         Some((RecordState::Complete, 1, 3, 0, 1))
     );
-    assert!(rt; amend(&mut catalogue, 5, 6)? && !amend(&mut catalogue, 6, 5)?);
+    Ok(())
+}
+
+#[test]
+fn a_save_is_amended_purged_and_deleted(rt: HostRuntime) -> Result<(), Fail> {
+    let alloc = rt.alloc();
+    let mut catalogue = saved(alloc)?;
+    assert!(rt; amend(&mut catalogue, 5, 6)?);
+    assert!(rt; !amend(&mut catalogue, 6, 5)?);
     assert_eq!(rt;
         seen_of(&catalogue, 1),
-        Some((RecordState::Complete, 1, 3, 7, 1))
+        Some((RecordState::Complete, 1, 2, 5, 1))
     );
-    assert!(rt; purge(alloc, &mut catalogue, 1)? && !purge(alloc, &mut catalogue, 2)?);
+    assert!(rt; purge(alloc, &mut catalogue, 1)?);
     assert_eq!(rt;
         seen_of(&catalogue, 1),
-        Some((RecordState::Complete, 1, 3, 8, 0))
+        Some((RecordState::Complete, 1, 2, 6, 0))
     );
-    assert_eq!(rt; (catalogue.number(), catalogue.next_ssid()), (8, Ssid(2)));
-    assert!(rt; step(&mut catalogue, Change::Deleted { ssid: Ssid(1) })?);
+    assert!(rt; delete(&mut catalogue, 1)?);
     assert_eq!(rt; seen_of(&catalogue, 1), None);
     Ok(())
+}
+
+fn delete(catalogue: &mut Catalogue, ssid: u64) -> Result<bool, Memory> {
+    step(catalogue, Change::Deleted { ssid: Ssid(ssid) })
 }
 
 #[test]
 fn a_label_takes_what_lies_on_the_cartridge(rt: HostRuntime) -> Result<(), Fail> {
     let alloc = rt.alloc();
-    let mut catalogue = Catalogue::opening(alloc)?;
-    assert!(rt; label(alloc, &mut catalogue, 1)? && begin(alloc, &mut catalogue, 1)?);
-    assert!(rt; finish(alloc, &mut catalogue, 1, 140)? && begin(alloc, &mut catalogue, 2)?);
-    assert!(rt; !label(alloc, &mut catalogue, 1)?);
+    let mut catalogue = saved(alloc)?;
+    assert!(rt; begin(alloc, &mut catalogue, 2)?);
     assert!(rt; label(alloc, &mut catalogue, 5)?);
     assert_eq!(rt; seen_of(&catalogue, 1), None);
-    assert_eq!(rt;
-        seen_of(&catalogue, 2),
-        Some((RecordState::Begun, 1, 2, 0, 0))
-    );
-    assert!(rt; catalogue.db().volume(Volid(1)).is_none());
-    assert!(rt; catalogue.db().volume(Volid(5)).is_some());
+    assert_eq!(rt; seen_of(&catalogue, 2), Some(BEGUN));
     assert_eq!(rt; catalogue.next_volid(), Volid(6));
     Ok(())
 }
