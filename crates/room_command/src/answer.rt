@@ -16,13 +16,21 @@ pub struct SlotLine {
 #[derive(Debug, PartialEq, Drop)]
 pub enum Answer {
     /// So many resources were added.
-    Defined { count: u32 },
+    Defined {
+        count: u32,
+    },
     /// It was done, and there is no more to say.
     Empty,
     /// The cartridge has this volume now.
-    Labelled { cart: Cart, volid: Volid },
+    Labelled {
+        cart: Cart,
+        volid: Volid,
+    },
     /// The drive has this volume now.
-    Mounted { drive: u8, volid: Volid },
+    Mounted {
+        drive: u8,
+        volid: Volid,
+    },
     /// The slots that are filled.
     Slots(Items<SlotLine>),
     /// What is done with each member of a group.
@@ -37,9 +45,15 @@ pub enum Answer {
         ssid: Ssid,
     },
     /// The piece was taken. `next` is the offset of the next one.
-    Next { next: u64 },
+    Next {
+        next: u64,
+    },
     /// The save set is complete, with this length of its stream, and so many entries.
-    Finished { bytes: u64, files: u32, ssid: Ssid },
+    Finished {
+        bytes: u64,
+        files: u32,
+        ssid: Ssid,
+    },
     /// The indexes of these save sets were given up.
     Purged(Items<Ssid>),
     /// What is known of a save set.

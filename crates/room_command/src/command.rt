@@ -6,13 +6,23 @@ use room_rules::Action;
 #[derive(Debug, PartialEq, Drop)]
 pub enum Command {
     /// Adds the resources of a text.
-    Define { text: Items<u8> },
+    Define {
+        text: Items<u8>,
+    },
     /// Removes a resource.
-    Drop { kind: ResourceKind, name: Name },
+    Drop {
+        kind: ResourceKind,
+        name: Name,
+    },
     /// Puts a cartridge into a slot.
-    Load { slot: u8, cart: Cart },
+    Load {
+        slot: u8,
+        cart: Cart,
+    },
     /// Takes the cartridge of a slot away.
-    Eject { slot: u8 },
+    Eject {
+        slot: u8,
+    },
     /// Makes a volume of the cartridge in a slot. `block` is the size of its data blocks in bytes;
     /// without it they have 4,096.
     Label {
@@ -22,13 +32,20 @@ pub enum Command {
         block: Option<u32>,
     },
     /// Puts the volume in a slot into a drive.
-    Mount { slot: u8, drive: u8 },
+    Mount {
+        slot: u8,
+        drive: u8,
+    },
     /// Takes the volume out of a drive.
-    Unmount { drive: u8 },
+    Unmount {
+        drive: u8,
+    },
     /// Lists the slots.
     Inventory,
     /// Says what a group saves today.
-    Savegrp { group: Name },
+    Savegrp {
+        group: Name,
+    },
     /// Begins a save of a client's set, at this level, or at that of the group's schedule.
     Begin {
         client: Name,
@@ -49,7 +66,9 @@ pub enum Command {
         sha256: [u8; 32],
     },
     /// Gives a save up.
-    Abort { ssid: Ssid },
+    Abort {
+        ssid: Ssid,
+    },
     /// Sets those times of a save set that are given, in seconds, and whether it is held.
     Amend {
         ssid: Ssid,
@@ -58,9 +77,13 @@ pub enum Command {
         hold: Option<bool>,
     },
     /// Takes a save set off the record.
-    Delete { ssid: Ssid },
+    Delete {
+        ssid: Ssid,
+    },
     /// Gives up the index of each save set whose files aren't browsed any more.
     Nsrim,
     /// Says what is known of a save set.
-    Show { ssid: Ssid },
+    Show {
+        ssid: Ssid,
+    },
 }
