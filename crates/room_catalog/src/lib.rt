@@ -1,5 +1,5 @@
-//! The catalogue of a room: its resources, slots, volumes, records and indexes, and what each change
-//! makes of it. A change that fits and was prepared is applied without taking memory.
+//! The catalogue of a room: its resources, slots, volumes, records and indexes, and what changes
+//! make of them. A change that fits and was prepared is applied without taking memory.
 //! docs/definitions.md says what the words of the contracts mean.
 #![tactic(auto)]
 
