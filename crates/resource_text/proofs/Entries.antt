@@ -43,8 +43,8 @@ pub entry_stops : {X : Type 0} (Is : List ℕ → Data → X → Type 0) (entrie
     → (all : List X) → ¬ (AreEntries Is (members_view entries) all)
 entry_stops Is entries rest entry xs so none all are = first_is (so.parted all are)
   where
-  first_is : ((others : List _) × AreEntries Is (members_view (entry ∷ rest)) others) → ⊥
-  first_is (all, (x, others, is, more, same)) = none x is
+    first_is : ((others : List _) × AreEntries Is (members_view (entry ∷ rest)) others) → ⊥
+    first_is (all, (x, others, is, more, same)) = none x is
 
 pub as_many_entries : {X : Type 0} (Is : List ℕ → Data → X → Type 0) (entries : List Entry)
     (xs : List X) → AreEntries Is (members_view entries) xs → length xs ≡ length entries

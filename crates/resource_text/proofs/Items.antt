@@ -46,8 +46,8 @@ pub none_are : {X : Type 0} (Is : Data → X → Type 0) (values rest : List Val
     → (all : List X) → ¬ (AreItems Is (items_view values) all)
 none_are Is values rest value xs so none all are = first_is (so.parted all are)
   where
-  first_is : ((others : List _) × AreItems Is (items_view (value ∷ rest)) others) → ⊥
-  first_is (all, (x, others, is, more, same)) = none x is
+    first_is : ((others : List _) × AreItems Is (items_view (value ∷ rest)) others) → ⊥
+    first_is (all, (x, others, is, more, same)) = none x is
 
 -- there are as many as values
 pub as_many : {X : Type 0} (Is : Data → X → Type 0) (values : List Value) (xs : List X)

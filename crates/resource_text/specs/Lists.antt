@@ -1,7 +1,16 @@
 -- Lists in a table, each item of which stands for something.
 use Rattle.std.specs.Prelude.{◌≡◌, ◌⊎◌, ℕ, ◌≤◌, List, [], ◌∷◌, length, Some, None}
 use Rattle.toml.specs.Data.{
-  Data, string, array, Items, no_items, item, Members, no_members, member, get_member
+  Data,
+  string,
+  array,
+  Items,
+  no_items,
+  item,
+  Members,
+  no_members,
+  member,
+  get_member,
 }
 
 -- each item stands for something

@@ -4,8 +4,18 @@ use Rattle.std.specs.Prelude.{Option, Some, None, Result, Ok, Err, Vec}
 use Rattle.std.specs.declared.alloc.Global.{Global}
 use Rattle.std.specs.Str.{IsUtf8}
 use Rattle.toml.specs.Data.{
-  Data, string, integer, array, table, Items, no_items, item, Members, no_members, member,
-  get_member
+  Data,
+  string,
+  integer,
+  array,
+  table,
+  Items,
+  no_items,
+  item,
+  Members,
+  no_members,
+  member,
+  get_member,
 }
 use Rattle.toml.specs.Parse.{parse_document}
 use Rattle.room_rules.specs.declared.group.Group.{Group}
@@ -23,7 +33,14 @@ use Rattle.resource_text.specs.declared.fault.TextFault.TheVariants.{Malformed, 
 use Rattle.resource_text.specs.Days.{IsDayText}
 use Rattle.resource_text.specs.Lists.{AreEntries, AreItems, AreTextsTo, MayHaveTexts}
 use Rattle.resource_text.specs.Reading.{
-  Ends, Field, HasKeys, HasText, IsItself, IsTable, Outcome, other_key
+  Ends,
+  Field,
+  HasKeys,
+  HasText,
+  IsItself,
+  IsTable,
+  Outcome,
+  other_key,
 }
 use Rattle.resource_text.specs.Words.{IsActionWord, IsLevelWord, period_word, unit_word}
 

@@ -17,6 +17,5 @@ mod words;
 pub use document::read_resources;
 pub use fault::TextFault;
 
-
 #[cfg(test)]
 mod tests;

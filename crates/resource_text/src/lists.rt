@@ -35,12 +35,7 @@ pub(crate) fn names_at(
 }
 
 // The names in an array.
-fn names_of(
-    alloc: Global,
-    key: &str,
-    array: &[Value],
-    most: u32,
-) -> Result<Items<Name>, TextFault>
+fn names_of(alloc: Global, key: &str, array: &[Value], most: u32) -> Result<Items<Name>, TextFault>
     ensures { ReadsField key.now (AreTextsTo 64 (IsItself (IsNameTo most))
         (items_view array.now)) result }
 {

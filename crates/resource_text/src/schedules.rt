@@ -18,6 +18,7 @@ use toml::{Table, Value};
 
 /// The most actions of a schedule, and the most overrides.
 const MAX_ACTIONS: usize = 31;
+
 const MAX_OVERRIDES: usize = 64;
 
 /// Reads a schedule.

@@ -16,6 +16,7 @@ use toml::{Table, Value};
 
 /// The most bytes of the name of a save set, and of all other names.
 pub(crate) const MAX_SET_NAME: u32 = 255;
+
 pub(crate) const MAX_NAME: u32 = 64;
 
 /// The fault that names a field.
@@ -63,12 +64,7 @@ pub(crate) fn table_of<'a>(
 }
 
 /// A name that a text has to be.
-pub(crate) fn name_of(
-    alloc: Global,
-    field: &str,
-    text: &str,
-    most: u32,
-) -> Result<Name, TextFault>
+pub(crate) fn name_of(alloc: Global, field: &str, text: &str, most: u32) -> Result<Name, TextFault>
     ensures { ReadsField field.now (IsItself (IsNameTo most) text.now) result }
 {
     match Name::read(alloc, text.as_bytes(), most) {
@@ -79,12 +75,7 @@ pub(crate) fn name_of(
 }
 
 /// The name that a table has at a key.
-pub(crate) fn name_at(
-    alloc: Global,
-    table: &Table,
-    key: &str,
-    most: u32,
-) -> Result<Name, TextFault>
+pub(crate) fn name_at(alloc: Global, table: &Table, key: &str, most: u32) -> Result<Name, TextFault>
     ensures { ReadsField key.now (HasText key.now (IsNameTo most) (table_view table.now))
         result }
 {

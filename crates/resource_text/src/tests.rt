@@ -6,7 +6,7 @@ use std::alloc::Global;
 use std::test::Fail;
 
 /// A text with one resource of each kind but a policy, and two clients.
-const TEXT: &str = "[pools.Copies]
+static TEXT: &str = "[pools.Copies]
 [clients.alpha]
 browse = \"Month\"
 retention = \"Year\"
@@ -23,8 +23,29 @@ schedule = \"Work\"
 members = [{ client = \"alpha\", set = \"/home\" }, { client = \"beta\", set = \"/home\" }]
 ";
 
+/// Schedules with the first and the last day that there is.
+static DAYS: &str = "[schedules.S]
+period = \"month\"
+actions = [\"9\"]
+overrides.1970-01-01 = \"skip\"
+[schedules.T]
+period = \"month\"
+actions = [\"9\"]
+overrides.9998-12-31 = \"incr\"
+";
+
+/// A policy with the greatest count.
+static TERM: &str = "[policies.Term]
+count = 9999
+period = \"weeks\"
+";
+
+static NINE: [u8; 1] = [9];
+
+static WORK: [u8; 5] = [0, 10, 5, 10, 11];
+
 /// Texts with the field that is refused.
-const FAULTY: [(&str, &str); 48] = [
+static FAULTY: [(&str, &str); 48] = [
     ("a = ", "text"),
     ("[policies.Day]\ncount = 1\ncount = 1\n", "text"),
     ("[other]\n", "other"),
@@ -36,10 +57,16 @@ const FAULTY: [(&str, &str); 48] = [
     ("groups = []\n", "groups"),
     ("[policies.'']\ncount = 1\n", "name"),
     ("[policies.\"a\\u0007\"]\ncount = 1\n", "name"),
-    ("[pools.aaaaaaaaaabbbbbbbbbbccccccccccddddddddddeeeeeeeeeeffffffffffggggg]\n", "name"),
+    (
+        "[pools.aaaaaaaaaabbbbbbbbbbccccccccccddddddddddeeeeeeeeeeffffffffffggggg]\n",
+        "name",
+    ),
     ("[policies.Day]\n", "count"),
     ("[policies.Day]\ncount = 0\nperiod = \"days\"\n", "count"),
-    ("[policies.Day]\ncount = 10000\nperiod = \"days\"\n", "count"),
+    (
+        "[policies.Day]\ncount = 10000\nperiod = \"days\"\n",
+        "count",
+    ),
     ("[policies.Day]\ncount = -1\nperiod = \"days\"\n", "count"),
     ("[policies.Day]\ncount = 1.0\nperiod = \"days\"\n", "count"),
     ("[policies.Day]\ncount = 1\n", "period"),
@@ -54,23 +81,62 @@ const FAULTY: [(&str, &str); 48] = [
     ("[clients.a]\nretention = \"Year\"\n", "browse"),
     ("[clients.a]\nbrowse = \"Month\"\n", "retention"),
     ("[schedules.S]\nactions = [\"full\"]\n", "period"),
-    ("[schedules.S]\nperiod = \"day\"\nactions = [\"full\"]\n", "period"),
+    (
+        "[schedules.S]\nperiod = \"day\"\nactions = [\"full\"]\n",
+        "period",
+    ),
     ("[schedules.S]\nperiod = \"week\"\n", "actions"),
-    ("[schedules.S]\nperiod = \"week\"\nactions = []\n", "actions"),
-    ("[schedules.S]\nperiod = \"week\"\nactions = [\"weekly\"]\n", "actions"),
-    ("[schedules.S]\nperiod = \"week\"\nactions = [\"1\"]\noverrides = []\n", "overrides"),
-    ("[schedules.S]\nperiod = \"week\"\nactions = [\"1\"]\noverrides.2023-02-29 = \"1\"\n", "overrides"),
-    ("[schedules.S]\nperiod = \"week\"\nactions = [\"1\"]\noverrides.2023-11-1 = \"1\"\n", "overrides"),
-    ("[schedules.S]\nperiod = \"week\"\nactions = [\"1\"]\noverrides.2023-00-01 = \"1\"\n", "overrides"),
-    ("[schedules.S]\nperiod = \"week\"\nactions = [\"1\"]\noverrides.1969-12-31 = \"1\"\n", "overrides"),
-    ("[schedules.S]\nperiod = \"week\"\nactions = [\"1\"]\noverrides.9999-01-01 = \"1\"\n", "overrides"),
-    ("[schedules.S]\nperiod = \"week\"\nactions = [\"1\"]\noverrides.2023-11-16 = 1\n", "overrides"),
+    (
+        "[schedules.S]\nperiod = \"week\"\nactions = []\n",
+        "actions",
+    ),
+    (
+        "[schedules.S]\nperiod = \"week\"\nactions = [\"weekly\"]\n",
+        "actions",
+    ),
+    (
+        "[schedules.S]\nperiod = \"week\"\nactions = [\"1\"]\noverrides = []\n",
+        "overrides",
+    ),
+    (
+        "[schedules.S]\nperiod = \"week\"\nactions = [\"1\"]\noverrides.2023-02-29 = \"1\"\n",
+        "overrides",
+    ),
+    (
+        "[schedules.S]\nperiod = \"week\"\nactions = [\"1\"]\noverrides.2023-11-1 = \"1\"\n",
+        "overrides",
+    ),
+    (
+        "[schedules.S]\nperiod = \"week\"\nactions = [\"1\"]\noverrides.2023-00-01 = \"1\"\n",
+        "overrides",
+    ),
+    (
+        "[schedules.S]\nperiod = \"week\"\nactions = [\"1\"]\noverrides.1969-12-31 = \"1\"\n",
+        "overrides",
+    ),
+    (
+        "[schedules.S]\nperiod = \"week\"\nactions = [\"1\"]\noverrides.9999-01-01 = \"1\"\n",
+        "overrides",
+    ),
+    (
+        "[schedules.S]\nperiod = \"week\"\nactions = [\"1\"]\noverrides.2023-11-16 = 1\n",
+        "overrides",
+    ),
     ("[groups.g]\nmembers = []\n", "schedule"),
     ("[groups.g]\nschedule = \"S\"\n", "members"),
-    ("[groups.g]\nschedule = \"S\"\nmembers = [{ client = \"a\" }]\n", "members"),
-    ("[groups.g]\nschedule = \"S\"\nmembers = [{ client = \"a\", set = \"/a\", x = 1 }]\n", "members"),
+    (
+        "[groups.g]\nschedule = \"S\"\nmembers = [{ client = \"a\" }]\n",
+        "members",
+    ),
+    (
+        "[groups.g]\nschedule = \"S\"\nmembers = [{ client = \"a\", set = \"/a\", x = 1 }]\n",
+        "members",
+    ),
     ("[groups.g]\nschedule = \"S\"\nmembers = [1]\n", "members"),
-    ("[policies.Day]\ncount = 0\n[clients.a]\nbrowse = 1\n", "count"),
+    (
+        "[policies.Day]\ncount = 0\n[clients.a]\nbrowse = 1\n",
+        "count",
+    ),
     ("[pools.B]\nsets = 1\n[pools.A]\nlevels = 1\n", "levels"),
     ("[groups.'']\n[policies.Day]\ncount = 1\n", "period"),
 ];
@@ -146,7 +212,7 @@ fn resources_come_in_the_order_of_kinds_and_names(rt: HostRuntime) -> Result<(),
     let schedule = Resource::Schedule(Schedule {
         name: name(alloc, "Work")?,
         period: Period::Week,
-        actions: actions(alloc, &[0, 10, 5, 10, 11])?,
+        actions: actions(alloc, &WORK)?,
         overrides: overrides(alloc, 19_677, 0)?,
     });
     assert!(rt; resources.get(3) == Some(&schedule));
@@ -173,34 +239,34 @@ fn the_first_field_that_is_not_allowed_is_named(rt: HostRuntime) -> Result<(), F
     Ok(())
 }
 
+fn schedule(alloc: Global, text: &str, day: u32, byte: u8) -> Result<Resource, Memory> {
+    Ok(Resource::Schedule(Schedule {
+        name: name(alloc, text)?,
+        period: Period::Month,
+        actions: actions(alloc, &NINE)?,
+        overrides: overrides(alloc, day, byte)?,
+    }))
+}
+
 #[test]
-fn first_and_last_days_policies_and_words(rt: HostRuntime) -> Result<(), Fail> {
+fn first_and_last_days_are_read(rt: HostRuntime) -> Result<(), Fail> {
+    let alloc = rt.alloc();
+    let resources = read(alloc, DAYS.as_bytes())?;
+    assert!(rt; resources.get(0) == Some(&schedule(alloc, "S", 0, 11)?));
+    assert!(rt; resources.get(1) == Some(&schedule(alloc, "T", 2_932_531, 10)?));
+    Ok(())
+}
+
+#[test]
+fn a_policy_and_no_resource_are_read(rt: HostRuntime) -> Result<(), Fail> {
     let alloc = rt.alloc();
     assert!(rt; read(alloc, b"")?.is_empty());
-    let text = "[policies.Term]\ncount = 9999\nperiod = \"weeks\"\n\
-        [schedules.S]\nperiod = \"month\"\nactions = [\"9\"]\noverrides.1970-01-01 = \"skip\"\n\
-        [schedules.T]\nperiod = \"month\"\nactions = [\"9\"]\noverrides.9998-12-31 = \"incr\"\n";
-    let resources = read(alloc, text.as_bytes())?;
     let policy = Resource::Policy(Policy {
         name: name(alloc, "Term")?,
         count: 9_999,
         unit: Unit::Weeks,
     });
-    assert!(rt; resources.get(0) == Some(&policy));
-    let first = Resource::Schedule(Schedule {
-        name: name(alloc, "S")?,
-        period: Period::Month,
-        actions: actions(alloc, &[9])?,
-        overrides: overrides(alloc, 0, 11)?,
-    });
-    assert!(rt; resources.get(1) == Some(&first));
-    let last = Resource::Schedule(Schedule {
-        name: name(alloc, "T")?,
-        period: Period::Month,
-        actions: actions(alloc, &[9])?,
-        overrides: overrides(alloc, 2_932_531, 10)?,
-    });
-    assert!(rt; resources.get(2) == Some(&last));
+    assert!(rt; read(alloc, TERM.as_bytes())?.get(0) == Some(&policy));
     Ok(())
 }
 

@@ -9,6 +9,7 @@ use room_rules::{Action, Period, Unit};
 use save_stream::Level;
 
 const INCR: u8 = 10;
+
 const SKIP: u8 = 11;
 
 /// What a word of a list can stand for.

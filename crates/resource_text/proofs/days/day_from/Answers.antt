@@ -1,7 +1,6 @@
 use Rattle.std.proofs.Common.{rules, arith, ◌≡◌, ◌∙◌, sym, w8, w16, w32, to_z, of_z, FitsSigned}
 use Rattle.std.proofs.lemmas.Int.{to_z_pos, to_z-of_z}
 use Rattle.resource_text.proofs.Dates.{natural_day}
-
 use Rattle.resource_text.proofs.days.day_from.Goals as goal
 
 pub returns-in-Ok-try_from : goal.returns-in-Ok-try_from

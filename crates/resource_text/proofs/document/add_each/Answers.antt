@@ -18,7 +18,7 @@ returns-in_err-resource_of c =
     let fault = c.in_err-resource_of.field-0.0 in
     let p = err_from_is_err_and c.from_residual.result c.from_residual.ensures.1 in
     let gives : Reads (resource_gives c.args.kind (string_bytes e.0) (view e.1)) (Err fault) =
-        subst (λ key. Reads (resource_gives c.args.kind key (view e.1)) (Err fault)) c.as_str.ensures.value c.in_err-resource_of.ensures in
+    subst (λ key. Reads (resource_gives c.args.kind key (view e.1)) (Err fault)) c.as_str.ensures.value c.in_err-resource_of.ensures in
     rw (p.1, p.2) (each_stops c.args.kind all old c.next.new.self e c.names.resources.items c.names.resources.items fault
     (subst (λ rest. EachGives c.args.kind all old rest c.names.resources.items) iter so) gives)
 
@@ -31,6 +31,9 @@ names-preserved c =
     let iter : c.names.name-iterator ≡ e ∷ c.next.new.self = grind (arith, common_steps) in
     let one = c.in_ok-resource_of.field-0 in
     let gives : Reads (resource_gives c.args.kind (string_bytes e.0) (view e.1)) (Ok one) =
-        subst (λ key. Reads (resource_gives c.args.kind key (view e.1)) (Ok one)) c.as_str.ensures.value c.in_ok-resource_of.ensures in
-    (tt, tt, each_added c.args.kind all old c.next.new.self e c.names.resources.items c.push.new.self.items one
-    (subst (λ rest. EachGives c.args.kind all old rest c.names.resources.items) iter so) gives c.in_ok-push.ensures.items)
+    subst (λ key. Reads (resource_gives c.args.kind key (view e.1)) (Ok one)) c.as_str.ensures.value c.in_ok-resource_of.ensures in (
+      tt,
+      tt,
+      each_added c.args.kind all old c.next.new.self e c.names.resources.items c.push.new.self.items one
+          (subst (λ rest. EachGives c.args.kind all old rest c.names.resources.items) iter so) gives c.in_ok-push.ensures.items,
+    )

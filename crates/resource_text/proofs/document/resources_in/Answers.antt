@@ -14,7 +14,7 @@ returns-in_err-add_kind c =
     let i = c.loop-kind.kind-index in
     let kind = get_or all_kinds i kinds.Policy in
     let left : drop i all_kinds ≡ kind ∷ drop (i + 1) all_kinds =
-        drop_more all_kinds i kinds.Policy c.loop-kind-test.true in
+    drop_more all_kinds i kinds.Policy c.loop-kind-test.true in
     let p = err_from_is_err_and c.from_residual-in_err-add_kind.result c.from_residual-in_err-add_kind.ensures.1 in
     rw (p.1, p.2) (kinds_stop all kind (drop (i + 1) all_kinds) c.loop-kind.resources.items c.add_kind.new.resources.items
     c.in_err-add_kind.field-0.0 (subst (λ rest. GiveAll all rest c.loop-kind.resources.items) left c.loop-kind.invariant)
@@ -26,7 +26,7 @@ loop-kind-preserved c =
     let i = c.loop-kind.kind-index in
     let kind = get_or all_kinds i kinds.Policy in
     let left : drop i all_kinds ≡ kind ∷ drop (i + 1) all_kinds =
-        drop_more all_kinds i kinds.Policy c.loop-kind-test.true in
+    drop_more all_kinds i kinds.Policy c.loop-kind-test.true in
     kind_added all kind (drop (i + 1) all_kinds) c.loop-kind.resources.items c.add_kind.new.resources.items
     (subst (λ rest. GiveAll all rest c.loop-kind.resources.items) left c.loop-kind.invariant) c.in_ok-add_kind.ensures
 
@@ -34,5 +34,8 @@ pub returns : goal.returns
 returns c =
     let all = table_view c.args.table.now in
     let items = c.loop-kind.resources.items in
-    inl (c.in_ok-know_keys.ensures, c.loop-kind.invariant (Ok items)
-    (subst (λ rest. kinds_give rest all items (Ok items)) (sym (drop_of_length-le all_kinds c.loop-kind-test.false)) refl))
+    inl (
+      c.in_ok-know_keys.ensures,
+      c.loop-kind.invariant (Ok items)
+          (subst (λ rest. kinds_give rest all items (Ok items)) (sym (drop_of_length-le all_kinds c.loop-kind-test.false)) refl),
+    )

@@ -18,5 +18,15 @@ returns-in_err-levels c =
 
 pub returns : goal.returns
 returns c =
-    inl (c.in_ok-know_keys.ensures, inl (c.in_ok-groups.groups, c.in_ok-groups.ensures, inl (c.in_ok-clients.clients, c.in_ok-clients.ensures,
-    inl (c.in_ok-sets.sets, c.in_ok-sets.ensures, inl (c.in_ok-levels.levels, c.in_ok-levels.ensures, refl)))))
+    inl (
+      c.in_ok-know_keys.ensures,
+      inl (
+        c.in_ok-groups.groups,
+        c.in_ok-groups.ensures,
+        inl (
+          c.in_ok-clients.clients,
+          c.in_ok-clients.ensures,
+          inl (c.in_ok-sets.sets, c.in_ok-sets.ensures, inl (c.in_ok-levels.levels, c.in_ok-levels.ensures, refl)),
+        ),
+      ),
+    )

@@ -12,5 +12,15 @@ returns-in_err-overrides c =
 
 pub returns : goal.returns
 returns c =
-    inl (c.in_ok-know_keys.ensures, inl (c.in_ok-period.period, c.in_ok-period.ensures, inl (c.in_ok-actions.actions, c.in_ok-actions.ensures,
-    inl (c.in_ok-overrides.overrides, c.in_ok-overrides.ensures, refl))))
+    inl (
+      c.in_ok-know_keys.ensures,
+      inl (
+        c.in_ok-period.period,
+        c.in_ok-period.ensures,
+        inl (
+          c.in_ok-actions.actions,
+          c.in_ok-actions.ensures,
+          inl (c.in_ok-overrides.overrides, c.in_ok-overrides.ensures, refl),
+        ),
+      ),
+    )
