@@ -1,0 +1,5 @@
+pub mod Composing
+pub mod Dates
+pub mod Documents
+pub mod Entries
+pub mod Items

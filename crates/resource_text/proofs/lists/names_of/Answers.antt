@@ -1,0 +1,28 @@
+use Rattle.std.proofs.Common.{arith, rules}
+use Rattle.std.proofs.lemmas.Result.{err_from_is_err_and}
+use Rattle.save_stream.specs.Spelling.{IsNameTo}
+use Rattle.resource_text.specs.Reading.{IsItself}
+use Rattle.resource_text.specs.Lists.{IsText}
+use Rattle.resource_text.proofs.Items.{all_read_at, one_more_at, stops_here, too_many}
+use Rattle.resource_text.proofs.lists.names_of.Goals as goal
+
+pub returns-then-array-gt-MAX_CRITERIA : goal.returns-then-array-gt-MAX_CRITERIA
+returns-then-array-gt-MAX_CRITERIA c =
+    too_many c.args.key.now (IsText (IsItself (IsNameTo c.args.most))) 64 c.args.array.now c.malformed.result c.malformed.ensures (omega arith)
+
+pub returns-in_err-name_in : goal.returns-in_err-name_in
+returns-in_err-name_in c =
+    let p = err_from_is_err_and c.from_residual-in_err-name_in.result c.from_residual-in_err-name_in.ensures.1 in
+    rw (p.1, p.2) (stops_here c.args.key.now (IsText (IsItself (IsNameTo c.args.most))) 64 c.args.array.now c.loop-value.value-index c.value-item.result
+    c.loop-value.names.items c.in_err-name_in.field-0.0 c.loop-value-test.true c.value-item.is c.loop-value.invariant c.in_err-name_in.ensures)
+
+pub loop-value-preserved : goal.loop-value-preserved
+loop-value-preserved c =
+    one_more_at (IsText (IsItself (IsNameTo c.args.most))) c.args.array.now c.loop-value.value-index c.value-item.result c.loop-value.names.items
+    c.push.new.self.items c.in_ok-name_in.field-0 c.loop-value-test.true c.value-item.is c.loop-value.invariant
+    c.in_ok-name_in.ensures c.in_ok-push.ensures.items
+
+pub returns : goal.returns
+returns c =
+    all_read_at (IsText (IsItself (IsNameTo c.args.most))) 64 c.args.array.now c.loop-value.value-index c.loop-value.names.items c.of.result
+    c.loop-value-test.false c.loop-value.invariant c.of.ensures (omega arith)
