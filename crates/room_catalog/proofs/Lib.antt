@@ -1,0 +1,14 @@
+pub mod Counting
+pub mod Stepping
+pub mod Defining
+pub mod Paths
+pub mod Found
+pub mod Kinded
+pub mod Applied
+pub mod Updated
+pub mod KeptRecords
+pub mod KeptVolumes
+pub mod KeptIndexes
+pub mod KeptResources
+pub mod KeptCatalogue
+pub mod Opening

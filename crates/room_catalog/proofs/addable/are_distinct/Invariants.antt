@@ -1,0 +1,9 @@
+use Rattle.std.proofs.Common.{length}
+use Rattle.room_catalog.specs.Fits.{AreDistinct}
+use Rattle.room_catalog.proofs.addable.are_distinct.Given as goal
+
+abbrev pub invariant-loop-rest : goal.invariant-loop-rest
+invariant-loop-rest l = (AreDistinct l.rest → AreDistinct l.resources) × (AreDistinct l.resources → AreDistinct l.rest)
+
+abbrev pub decreases-loop-rest : goal.decreases-loop-rest
+decreases-loop-rest l = length l.rest

@@ -1,0 +1,10 @@
+use Rattle.std.proofs.Common.{◌≡◌, length}
+use Rattle.std.specs.Vec.Iter.{into_iter_items, into_iter_len}
+use Rattle.room_catalog.proofs.Defining.{Adds}
+use Rattle.room_catalog.proofs.resources.Resources.define.Given as goal
+
+abbrev pub invariant-loop-resource : goal.invariant-loop-resource
+invariant-loop-resource l = record {
+  adds : Adds l.fn.new l.fn.self l.self (into_iter_items l.resource-iterator);
+  len : into_iter_len l.resource-iterator ≡ length (into_iter_items l.resource-iterator);
+}

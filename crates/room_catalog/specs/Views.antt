@@ -1,0 +1,28 @@
+-- The catalogue in memory as contracts see it.
+use Rattle.room_catalog.specs.declared.kept.Kept.{Kept}
+use Rattle.room_catalog.specs.Held.{HeldCatalogue}
+
+abbrev pub held_of : Kept → HeldCatalogue
+held_of kept = record {
+  lists = record {
+    number = kept.number;
+    last_moment = kept.last_moment.0;
+    next_ssid = kept.next_ssid.0;
+    next_volid = kept.next_volid.0;
+    resources = kept.resources.lists;
+    slots = kept.slots.slots;
+    volumes = kept.db.volumes;
+    records = kept.db.records;
+    sets = kept.index.sets;
+    parts = kept.parts.parts;
+  };
+  room = record {
+    resources = kept.resources.room;
+    slots = kept.slots.room;
+    volumes = kept.db.volume_room;
+    records = kept.db.record_room;
+    indexes = kept.index.room;
+    entries = kept.parts.capacity;
+    copies = kept.copies;
+  };
+}

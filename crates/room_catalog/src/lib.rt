@@ -1,0 +1,29 @@
+//! The catalogue of a room: its resources, slots, volumes, records and indexes, and what each change
+//! makes of it. A change that fits and was prepared is applied without taking memory.
+//! docs/definitions.md says what the words of the contracts mean.
+#![tactic(auto)]
+
+mod addable;
+mod catalogue;
+mod copy_room;
+mod counts;
+mod fitting;
+mod kept;
+mod laws;
+mod named;
+mod parts;
+mod preparing;
+mod resources;
+mod saves;
+mod slots;
+mod volumes;
+
+pub use catalog_change::{Change, Client, FilledSlot, Resource, ResourceKind};
+pub use catalogue::Catalogue;
+pub use laws::{catalogues_are_what_is_found, prepared_changes_stay_ready};
+pub use room_rules::{
+    Action, Group, Member, Override, Period, Planned, Policy, Pool, Schedule, Unit,
+};
+
+#[cfg(test)]
+mod tests;
