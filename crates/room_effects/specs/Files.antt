@@ -1,0 +1,124 @@
+-- Which file an effect writes or reads, what it makes of the file's bytes, and what is left of them
+-- where it is cut short.
+use Rattle.std.specs.Prelude.{◌≡◌, ◌≢◌, ℕ, ◌==◌, Bool, true, false, List, if◌then◌else◌}
+use Rattle.std.specs.Prelude.{Option, Some, None}
+use Rattle.std.specs.Option.{option_map}
+use Rattle.room_disk.specs.Crash.{IsAnew, AnewTorn}
+use Rattle.room_disk.specs.Disk.{Image}
+use Rattle.volume_store.specs.Reads.{Finds, Mounts}
+use Rattle.volume_store.specs.Writes.{cart_file, IsBeingLabelled, Relabels}
+use Rattle.cat_journal.specs.Journal.{
+  JournalView,
+  AddsEntry,
+  MayAddEntry,
+  file_of,
+  new_text,
+  next_file,
+  next_head,
+}
+use Rattle.slot_changer.specs.Committing.{AddsBuffer, MayAddBuffer, cart_file_of}
+use Rattle.slot_changer.specs.Drives.{DriveView}
+use Rattle.room_effects.specs.View.{RoomView, held_in}
+use Rattle.room_effects.specs.Effects.{
+  Effect,
+  Enter,
+  EnterPart,
+  TurnOver,
+  Commit,
+  Look,
+  WriteLabel,
+  Seen,
+  SeenLabel,
+  SeenVolume,
+  entry_bytes,
+  is_at_last,
+  part_bytes,
+}
+
+-- ---- the file
+
+-- the file that an effect writes or reads; one in memory has none
+abbrev pub device_of : Effect → RoomView → Option ℕ
+device_of (Enter m change) room = Some (file_of room.journal.current)
+device_of (EnterPart m ssid part index) room = Some (file_of room.journal.current)
+device_of (TurnOver snapshot) room =
+    if is_at_last room.journal then None else Some (next_file room.journal.current)
+device_of (Commit drive asking) room = option_map cart_file_of (held_in room drive)
+device_of (Look cart seen) room = Some (cart_file cart)
+device_of (WriteLabel label) room = Some (cart_file label.cart.0)
+device_of _ room = None
+
+abbrev pub is_file : ℕ → Option ℕ → Bool
+is_file file None = false
+is_file file (Some other) = other == file
+
+-- whether the effect writes or reads this file
+abbrev pub is_on : ℕ → Effect → RoomView → Bool
+is_on file effect room = is_file file (device_of effect room)
+
+abbrev pub file_or_none : Option ℕ → ℕ
+file_or_none None = 0
+file_or_none (Some file) = file
+
+-- the file whose bytes are told of; those of file 0 are as before where the effect is in memory
+abbrev pub target : Effect → RoomView → ℕ
+target effect room = file_or_none (device_of effect room)
+
+-- ---- its bytes
+
+abbrev pub IsSame : List ℕ → List ℕ → Type 0
+IsSame old new = new ≡ old
+
+-- a turn-over writes a file anew, unless no generation comes next
+abbrev pub TurnsOver : Bool → JournalView → List ℕ → List ℕ → List ℕ → Type 0
+TurnsOver true journal snapshot old new = IsSame old new
+TurnsOver false journal snapshot old new =
+    IsAnew 0x4A (new_text (next_head journal) snapshot) old new
+
+abbrev pub MayTurnOver : Bool → JournalView → List ℕ → List ℕ → List ℕ → Type 0
+MayTurnOver true journal snapshot old new = IsSame old new
+MayTurnOver false journal snapshot old new =
+    AnewTorn 0x4A (new_text (next_head journal) snapshot) old new
+
+abbrev pub Commits : Option DriveView → List ℕ → List ℕ → Type 0
+Commits None old new = IsSame old new
+Commits (Some one) old new = AddsBuffer one old new
+
+abbrev pub MayCommit : Option DriveView → List ℕ → List ℕ → Type 0
+MayCommit None old new = IsSame old new
+MayCommit (Some one) old new = MayAddBuffer one old new
+
+-- this is found on a cartridge with these bytes
+abbrev pub IsSeen : ℕ → Seen → List ℕ → Type 0
+IsSeen cart (SeenLabel found) bytes = Finds bytes found
+IsSeen cart (SeenVolume answer) bytes = Mounts bytes cart answer
+
+-- the file before and after the effect, once it is done
+abbrev pub Whole : Effect → RoomView → List ℕ → List ℕ → Type 0
+Whole (Enter m change) room old new = AddsEntry room.journal (entry_bytes m change) old new
+Whole (EnterPart m ssid part index) room old new =
+    AddsEntry room.journal (part_bytes m ssid part index) old new
+Whole (TurnOver snapshot) room old new =
+    TurnsOver (is_at_last room.journal) room.journal snapshot old new
+Whole (Commit drive asking) room old new = Commits (held_in room drive) old new
+Whole (Look cart seen) room old new = IsSame old new × IsSeen cart seen old
+Whole (WriteLabel label) room old new = Relabels label old new
+Whole _ room old new = IsSame old new
+
+-- the same, where it is cut short or not begun at all
+abbrev pub Torn : Effect → RoomView → List ℕ → List ℕ → Type 0
+Torn (Enter m change) room old new = MayAddEntry room.journal (entry_bytes m change) old new
+Torn (EnterPart m ssid part index) room old new =
+    MayAddEntry room.journal (part_bytes m ssid part index) old new
+Torn (TurnOver snapshot) room old new =
+    MayTurnOver (is_at_last room.journal) room.journal snapshot old new
+Torn (Commit drive asking) room old new = MayCommit (held_in room drive) old new
+Torn (WriteLabel label) room old new = IsBeingLabelled label old new
+Torn _ room old new = IsSame old new
+
+-- ---- all files
+
+-- P holds of this file before and after, and each other file is as before
+pub record Touches (file : ℕ) (P : List ℕ → List ℕ → Type 0) (before image : Image) : Type 0 where
+  pub others : (other : ℕ) → other ≢ file → image other ≡ before other
+  pub this : P (before file) (image file)

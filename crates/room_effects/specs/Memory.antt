@@ -1,0 +1,35 @@
+-- What fits in a room's memory without taking more, and what effects need of it.
+use Rattle.std.specs.Prelude.{ℕ, ◌≤◌, ◌<◌, List, length}
+use Rattle.catalog_change.specs.declared.change.Change.TheVariants.{IndexPart}
+use Rattle.room_catalog.specs.Held.{CatalogueRoom, HeldCatalogue}
+use Rattle.room_catalog.specs.Ready.{IsReady}
+use Rattle.save_session.specs.Sessions.{PartRoom, IsOpen, room_for}
+use Rattle.room_effects.specs.View.{RoomView}
+use Rattle.room_effects.specs.Effects.{Effect, Enter, EnterPart, Push, entry_bytes, part_bytes}
+
+-- what fits in the catalogue, how many more parts fit in each session, and how long an entry of the
+-- journal may be
+pub record RoomMemory : Type 0 where
+  pub catalogue : CatalogueRoom
+  pub parts : List PartRoom
+  pub entry : ℕ
+
+-- a room in memory
+pub record HeldRoom : Type 0 where
+  pub room : RoomView
+  pub memory : RoomMemory
+
+abbrev pub catalogue_in : HeldRoom → HeldCatalogue
+catalogue_in held = record { lists = held.room.catalogue; room = held.memory.catalogue }
+
+-- The effect takes no memory. All others take none either, but that a session that begins and a
+-- volume that is put in bring theirs along, which is taken before anything is done.
+abbrev pub HasMemoryFor : Effect → HeldRoom → Type 0
+HasMemoryFor (Enter m change) held =
+    IsReady (catalogue_in held) change × (length (entry_bytes m change) ≤ held.memory.entry)
+HasMemoryFor (EnterPart m ssid part index) held =
+    IsReady (catalogue_in held) (IndexPart ssid part index)
+    × (length (part_bytes m ssid part index) ≤ held.memory.entry)
+HasMemoryFor (Push drive ssid copy offset bytes) held =
+    IsOpen ssid held.room.sessions → 0 < room_for ssid held.memory.parts
+HasMemoryFor _ held = Unit {0}
