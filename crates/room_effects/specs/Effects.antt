@@ -54,7 +54,7 @@ pub data Seen : Type 0 where
 -- A copy that isn't of an open session has no place in the room: its sections stand in the change
 -- that ends it.
 pub data Effect : Type 0 where
-  -- an entry of the journal, and the catalogue after its change
+  -- an entry of the journal, and the catalogue after its change, which is no part of an index
   Enter : Moment → Change → Effect
   -- the same of a part of an index: its set, its number from 0 on, its entries
   EnterPart : Moment → Ssid → ℕ → List IndexEntry → Effect

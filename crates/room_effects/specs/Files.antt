@@ -71,50 +71,50 @@ IsSame old new = new ≡ old
 
 -- a turn-over writes a file anew, unless no generation comes next
 abbrev pub TurnsOver : Bool → JournalView → List ℕ → List ℕ → List ℕ → Type 0
-TurnsOver true journal snapshot old new = IsSame old new
-TurnsOver false journal snapshot old new =
-    IsAnew 0x4A (new_text (next_head journal) snapshot) old new
+TurnsOver true journal snapshot = IsSame
+TurnsOver false journal snapshot = IsAnew 0x4A (new_text (next_head journal) snapshot)
 
 abbrev pub MayTurnOver : Bool → JournalView → List ℕ → List ℕ → List ℕ → Type 0
-MayTurnOver true journal snapshot old new = IsSame old new
-MayTurnOver false journal snapshot old new =
-    AnewTorn 0x4A (new_text (next_head journal) snapshot) old new
+MayTurnOver true journal snapshot = IsSame
+MayTurnOver false journal snapshot = AnewTorn 0x4A (new_text (next_head journal) snapshot)
 
 abbrev pub Commits : Option DriveView → List ℕ → List ℕ → Type 0
-Commits None old new = IsSame old new
-Commits (Some one) old new = AddsBuffer one old new
+Commits None = IsSame
+Commits (Some one) = AddsBuffer one
 
 abbrev pub MayCommit : Option DriveView → List ℕ → List ℕ → Type 0
-MayCommit None old new = IsSame old new
-MayCommit (Some one) old new = MayAddBuffer one old new
+MayCommit None = IsSame
+MayCommit (Some one) = MayAddBuffer one
 
 -- this is found on a cartridge with these bytes
 abbrev pub IsSeen : ℕ → Seen → List ℕ → Type 0
 IsSeen cart (SeenLabel found) bytes = Finds bytes found
 IsSeen cart (SeenVolume answer) bytes = Mounts bytes cart answer
 
+-- the cartridge's bytes are as before, and this is found on it
+abbrev pub Sees : ℕ → Seen → List ℕ → List ℕ → Type 0
+Sees cart seen old new = IsSame old new × IsSeen cart seen old
+
 -- the file before and after the effect, once it is done
 abbrev pub Whole : Effect → RoomView → List ℕ → List ℕ → Type 0
-Whole (Enter m change) room old new = AddsEntry room.journal (entry_bytes m change) old new
-Whole (EnterPart m ssid part index) room old new =
-    AddsEntry room.journal (part_bytes m ssid part index) old new
-Whole (TurnOver snapshot) room old new =
-    TurnsOver (is_at_last room.journal) room.journal snapshot old new
-Whole (Commit drive asking) room old new = Commits (held_in room drive) old new
-Whole (Look cart seen) room old new = IsSame old new × IsSeen cart seen old
-Whole (WriteLabel label) room old new = Relabels label old new
-Whole _ room old new = IsSame old new
+Whole (Enter m change) room = AddsEntry room.journal (entry_bytes m change)
+Whole (EnterPart m ssid part index) room =
+    AddsEntry room.journal (part_bytes m ssid part index)
+Whole (TurnOver snapshot) room = TurnsOver (is_at_last room.journal) room.journal snapshot
+Whole (Commit drive asking) room = Commits (held_in room drive)
+Whole (Look cart seen) room = Sees cart seen
+Whole (WriteLabel label) room = Relabels label
+Whole _ room = IsSame
 
 -- the same, where it is cut short or not begun at all
 abbrev pub Torn : Effect → RoomView → List ℕ → List ℕ → Type 0
-Torn (Enter m change) room old new = MayAddEntry room.journal (entry_bytes m change) old new
-Torn (EnterPart m ssid part index) room old new =
-    MayAddEntry room.journal (part_bytes m ssid part index) old new
-Torn (TurnOver snapshot) room old new =
-    MayTurnOver (is_at_last room.journal) room.journal snapshot old new
-Torn (Commit drive asking) room old new = MayCommit (held_in room drive) old new
-Torn (WriteLabel label) room old new = IsBeingLabelled label old new
-Torn _ room old new = IsSame old new
+Torn (Enter m change) room = MayAddEntry room.journal (entry_bytes m change)
+Torn (EnterPart m ssid part index) room =
+    MayAddEntry room.journal (part_bytes m ssid part index)
+Torn (TurnOver snapshot) room = MayTurnOver (is_at_last room.journal) room.journal snapshot
+Torn (Commit drive asking) room = MayCommit (held_in room drive)
+Torn (WriteLabel label) room = IsBeingLabelled label
+Torn _ room = IsSame
 
 -- ---- all files
 

@@ -22,8 +22,8 @@ pub record HeldRoom : Type 0 where
 abbrev pub catalogue_in : HeldRoom → HeldCatalogue
 catalogue_in held = record { lists = held.room.catalogue; room = held.memory.catalogue }
 
--- The effect takes no memory. All others take none either, but that a session that begins and a
--- volume that is put in bring theirs along, which is taken before anything is done.
+-- The effect can be done without taking memory. A session that begins and a volume that is put into
+-- a drive take theirs before anything is done, and all others need none.
 abbrev pub HasMemoryFor : Effect → HeldRoom → Type 0
 HasMemoryFor (Enter m change) held =
     IsReady (catalogue_in held) change × (length (entry_bytes m change) ≤ held.memory.entry)

@@ -1,14 +1,14 @@
 -- What a run of effects makes of a room and its disk. A crash image is told from an image that the
 -- disk might have had before the run, on which what was done is done again.
-use Rattle.std.specs.Prelude.{◌≡◌, ◌⊎◌, ℕ, ◌+◌, ◌-◌, ◌^◌, ◌≤◌, min, Bool, false, IsTrue}
-use Rattle.std.specs.Prelude.{◌&&◌, ◌||◌, not, List, [], ◌∷◌, ◌++◌, if◌then◌else◌}
-use Rattle.std.specs.Prelude.{Some, Result, Ok, Err}
+use Rattle.std.specs.Prelude.{◌≡◌, ◌⊎◌, ℕ, ◌+◌, ◌-◌, ◌^◌, ◌≤◌, min, ◌==◌, Bool, false, IsTrue}
+use Rattle.std.specs.Prelude.{List, [], ◌∷◌, ◌++◌, if◌then◌else◌, Option, Some, None, IsSome}
+use Rattle.std.specs.Prelude.{Result, Ok, Err}
 use Rattle.room_base.specs.Outside.{Told}
 use Rattle.room_base.specs.declared.numbers.Moment.{Moment}
 use Rattle.room_base.specs.declared.refusal.Refusal.{Refusal}
 use Rattle.room_disk.specs.Disk.{DiskView, Image, Images, Leaves, Settled}
 use Rattle.volume_store.specs.Committed.{CommittedFile, Closed, Committed, Labelled}
-use Rattle.volume_store.specs.Writes.{cart_file}
+use Rattle.volume_store.specs.Writes.{IsCart, cart_file}
 use Rattle.cat_journal.specs.Images.{IsJournal}
 use Rattle.catalog_change.specs.declared.change.Change.{Change}
 use Rattle.catalog_text.specs.Changes.{Stamped}
@@ -20,7 +20,11 @@ use Rattle.room_effects.specs.Effects.{
   Effect,
   Enter,
   Look,
+  Commit,
+  PutIn,
   WriteLabel,
+  Seen,
+  SeenVolume,
   Deed,
   Done,
   Broken,
@@ -30,7 +34,7 @@ use Rattle.room_effects.specs.Effects.{
   effect_of,
   with_index,
 }
-use Rattle.room_effects.specs.Files.{Touches, Torn, Whole, is_on, target}
+use Rattle.room_effects.specs.Files.{IsSeen, Touches, Torn, Whole, is_on, target}
 use Rattle.room_effects.specs.Faults.{fault_of}
 
 -- ---- deeds over the files
@@ -107,33 +111,51 @@ catalogue_behind [] lists = lists
 catalogue_behind (one ∷ more) lists =
     catalogue_behind more (catalogue_after (record { 0 = one.moment }) one.change lists)
 
--- ---- which files are at rest
+-- ---- what is known of cartridges
 
--- no file is said to be at rest
-abbrev pub no_files : ℕ → Bool
-no_files file = false
+-- what was seen of each cartridge, as far as it still stands
+abbrev pub Known : Type 0
+Known = ℕ → Option Seen
 
--- The files at rest behind a deed: nothing is pending on them. A deed that is done brings its file
--- to rest, and a write that fails leaves it unsettled. A read that fails changes nothing.
-abbrev pub rests_behind : (ℕ → Bool) → Deed → RoomView → ℕ → Bool
-rests_behind rests (Done effect) room file = rests file || is_on file effect room
-rests_behind rests (Broken (Look cart seen)) room file = rests file
-rests_behind rests (Broken effect) room file = rests file && not (is_on file effect room)
+abbrev pub nothing_known : Known
+nothing_known cart = None
 
-abbrev pub rests_behind_all : (ℕ → Bool) → List Deed → RoomView → ℕ → Bool
-rests_behind_all rests [] room = rests
-rests_behind_all rests (deed ∷ deeds) room =
-    rests_behind_all (rests_behind rests deed room) deeds (after deed room)
+-- of this cartridge it is known, of each other what was
+abbrev pub known_of : ℕ → Seen → Known → Known
+known_of cart seen known other = if other == cart then Some seen else known other
 
--- a label is written on a cartridge at rest; the room knows of all other files that it writes
-abbrev pub MayWrite : (ℕ → Bool) → Effect → Type 0
-MayWrite rests (WriteLabel label) = IsTrue (rests (cart_file label.cart.0))
-MayWrite rests _ = Unit {0}
+-- whether the cartridge is that of the volume in a drive
+abbrev pub has_cart : ℕ → Option DriveView → Bool
+has_cart cart None = false
+has_cart cart (Some one) = one.volume.cart.0 == cart
 
-abbrev pub MayWriteAll : (ℕ → Bool) → List Deed → RoomView → Type 0
-MayWriteAll rests [] room = Unit {0}
-MayWriteAll rests (deed ∷ deeds) room = MayWrite rests (effect_of deed)
-    × MayWriteAll (rests_behind rests deed room) deeds (after deed room)
+abbrev pub writes_on : ℕ → Effect → RoomView → Bool
+writes_on cart (Commit drive asking) room = has_cart cart (held_in room drive)
+writes_on cart (WriteLabel label) room = label.cart.0 == cart
+writes_on cart _ room = false
+
+-- a read that is done makes known what it saw, and a write makes unknown what it wrote on
+abbrev pub known_behind : Known → Deed → RoomView → Known
+known_behind known (Done (Look cart seen)) room = known_of cart seen known
+known_behind known deed room =
+    λ cart. if writes_on cart (effect_of deed) room then None else known cart
+
+abbrev pub known_behind_all : Known → List Deed → RoomView → Known
+known_behind_all known [] room = known
+known_behind_all known (deed ∷ deeds) room =
+    known_behind_all (known_behind known deed room) deeds (after deed room)
+
+-- A label is written on a cartridge that was looked at, and the volume is put into a drive that was
+-- seen on its cartridge. The room knows all other files that effects write.
+abbrev pub IsFounded : Known → Effect → Type 0
+IsFounded known (WriteLabel label) = IsSome (known label.cart.0)
+IsFounded known (PutIn drive volume) = known volume.cart.0 ≡ Some (SeenVolume (Ok volume))
+IsFounded known _ = Unit {0}
+
+abbrev pub AreFounded : Known → List Deed → RoomView → Type 0
+AreFounded known [] room = Unit {0}
+AreFounded known (deed ∷ deeds) room = IsFounded known (effect_of deed)
+    × AreFounded (known_behind known deed room) deeds (after deed room)
 
 -- ---- a room and its disk fit together
 
@@ -144,13 +166,19 @@ pub record IsCarried (disk : DiskView) (one : DriveView) : Type 0 where
   pub files : (files : List CommittedFile) × Committed (disk.reads (cart_file_of one))
       (Labelled one.volume.label files (Closed one.volume.mark))
 
--- The journal's files are those that an open room knows, with nothing pending. The cartridges in
--- its drives are those of their volumes. The files that are said to be at rest are.
-pub record Ready (rests : ℕ → Bool) (room : RoomView) (disk : DiskView) : Type 0 where
+-- what was seen of a cartridge stands on it, and nothing is pending
+pub record Stands (disk : DiskView) (cart : ℕ) (seen : Seen) : Type 0 where
+  pub settled : Settled disk (cart_file cart)
+  pub is : IsSeen cart seen (disk.reads (cart_file cart))
+
+-- The journal's files are those that an open room knows, with nothing pending; the cartridges in
+-- its drives are those of their volumes; and what is known of cartridges stands.
+pub record Ready (known : Known) (room : RoomView) (disk : DiskView) : Type 0 where
   pub journal : IsTrue room.is_open → IsJournal room.journal disk
   pub drives : (drive : ℕ) (one : DriveView) → IsDrive drive → held_in room drive ≡ Some one
       → IsCarried disk one
-  pub settled : (file : ℕ) → IsTrue (rests file) → Settled disk file
+  pub seen : (cart : ℕ) (seen : Seen) → IsCart cart → known cart ≡ Some seen
+      → Stands disk cart seen
 
 -- ---- the deeds were done
 
@@ -158,10 +186,10 @@ pub record Ready (rests : ℕ → Bool) (room : RoomView) (disk : DiskView) : Ty
 abbrev pub FromOne : DiskView → (Image → Image → Type 0) → Image → Type 0
 FromOne disk P image = (first : Image) × Images disk first × P first image
 
--- what is told of a disk on which the deeds were done, where these files were at rest before
-pub record Carried (rests : ℕ → Bool) (deeds : List Deed) (old new : RoomView)
+-- what is told of a disk on which the deeds were done, where this was known of its cartridges
+pub record Carried (known : Known) (deeds : List Deed) (old new : RoomView)
     (before now : DiskView) : Type 0 where
-  pub ready : Ready (rests_behind_all rests deeds old) new now
+  pub ready : Ready (known_behind_all known deeds old) new now
   pub reads : Led deeds old before.reads now.reads
   pub images : (image : Image) → Images now image → FromOne before (Led deeds old) image
   pub moments : Leaves before now (FromOne before (Crashed deeds old))
@@ -178,8 +206,8 @@ pub record Performed (deeds : List Deed) (old new : RoomView) (before now : Disk
   pub tells : now.tells ≡ before.tells
   pub faults : (file : ℕ)
       → risen_by (failures file deeds old) (before.faults file) ≤ now.faults file
-  pub told : Told before.tells ((rests : ℕ → Bool) → MayWriteAll rests deeds old
-      → Ready rests old before → Carried rests deeds old new before now)
+  pub told : Told before.tells ((known : Known) → AreFounded known deeds old
+      → Ready known old before → Carried known deeds old new before now)
 
 -- ---- effects, to their end or to the first that fails
 
