@@ -24,6 +24,3 @@ pub use laws::{catalogues_are_what_is_found, prepared_changes_stay_ready};
 pub use room_rules::{
     Action, Group, Member, Override, Period, Planned, Policy, Pool, Schedule, Unit,
 };
-
-#[cfg(test)]
-mod tests;
