@@ -20,7 +20,7 @@ use Rattle.room_catalog.specs.Applying.{Applies, begun_row, parts_after}
 use Rattle.room_catalog.specs.Changing.{changed}
 use Rattle.room_catalog.specs.Fits.{FitsByKind}
 use Rattle.room_catalog.specs.Held.{CatalogueLists, CatalogueRoom, Parts, catalogue_of, index_in, no_parts}
-use Rattle.room_catalog.specs.Kinds.{as_client, as_group, as_policy, as_pool, as_schedule}
+use Rattle.resource_lists.specs.Kinds.{as_client, as_group, as_policy, as_pool, as_schedule}
 use Rattle.room_catalog.specs.Ready.{TakesRoom, entries_left}
 use Rattle.room_catalog.proofs.Found.{found_each, found_edited, found_edited_twice, found_emptied, found_filled, found_laid, found_off, found_purged, found_row, found_without, index_forgotten, index_off, index_purged, index_put}
 use Rattle.room_catalog.proofs.Kinded.{apart_of, client_says, group_says, policy_says, pool_says, schedule_says}

@@ -31,7 +31,7 @@ use Rattle.room_catalog.specs.Applying.{edited_at, index_of_row, is_among, is_go
 use Rattle.room_catalog.specs.Changing.{forget_each, forget_off, forget_row_off, purge_each, records_off, sets_off, volumes_off}
 use Rattle.room_catalog.specs.Fits.{find_slot}
 use Rattle.room_catalog.specs.Held.{index_in}
-use Rattle.room_catalog.specs.Kinds.{find_named, put_each, put_named, remove_named}
+use Rattle.resource_lists.specs.Kinds.{find_named, put_each, put_named, remove_named}
 
 -- a choice by numbers that compare as equal is one by numbers that are equal
 pub by_number : {A : Type 0} (one other : ℕ) (x y : A) → cond (eq_by_cmp nat_cmp one other) x y ≡ cond (one == other) x y

@@ -21,7 +21,8 @@ use Rattle.catalog_change.specs.declared.slot.FilledSlot.{FilledSlot}
 use Rattle.catalog_change.specs.Catalogues.{Catalogue, HasRecords, HasResources, IsCatalogue}
 use Rattle.catalog_change.specs.Changes.{IsChange}
 use Rattle.room_catalog.specs.Applying.{begun_row, is_among, row_off_gone, with_copy_ended}
-use Rattle.room_catalog.specs.Changing.{HasWholeDigest, changed, purge_each, records_off, sets_off, with_each, without_named}
+use Rattle.room_catalog.specs.Changing.{HasWholeDigest, changed, purge_each, records_off, sets_off}
+use Rattle.resource_lists.specs.Changing.{with_each, without_named}
 use Rattle.room_catalog.specs.Fits.{Fits, IsBegun}
 use Rattle.room_catalog.specs.Held.{CatalogueLists, CatalogueRoom, Parts, catalogue_of, index_in}
 use Rattle.room_catalog.specs.Ready.{IsReady}

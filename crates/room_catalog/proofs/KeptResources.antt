@@ -25,10 +25,11 @@ use Rattle.catalog_change.specs.declared.resource.ResourceKind.TheVariants as ki
 use Rattle.catalog_change.specs.Catalogues.{AreNamed, HasClient, HasPolicies, HasResources, HasSchedule, Names, resource_count}
 use Rattle.catalog_change.specs.Changes.{IsCount}
 use Rattle.catalog_change.specs.Resources.{IsClient, IsGroup, IsPolicy, IsPool, IsResource, IsSchedule, client_name, group_name, kind_of, name_of, policy_name, pool_name, schedule_name}
-use Rattle.room_catalog.specs.Changing.{with_each, without_named}
-use Rattle.room_catalog.specs.Fits.{AreAddable, AreDistinct, HasResource, IsNamed, IsNotMemberOf, IsNotPolicyOf, IsThere, IsUnused, Refers}
-use Rattle.room_catalog.specs.Held.{CatalogueLists, ResourceLists, catalogue_of}
-use Rattle.room_catalog.specs.Kinds.{as_client, as_group, as_policy, as_pool, as_schedule, find_named, put_each, put_named, remove_named}
+use Rattle.resource_lists.specs.Changing.{with_each, without_named}
+use Rattle.resource_lists.specs.Adding.{AreAddable, AreDistinct, HasResource, IsNamed, IsNotMemberOf, IsNotPolicyOf, IsThere, IsUnused, Refers}
+use Rattle.room_catalog.specs.Held.{CatalogueLists, catalogue_of}
+use Rattle.resource_lists.specs.Lists.{ResourceLists}
+use Rattle.resource_lists.specs.Kinds.{as_client, as_group, as_policy, as_pool, as_schedule, find_named, put_each, put_named, remove_named}
 use Rattle.room_catalog.proofs.Found.{Apart, found_each, same_name}
 use Rattle.room_catalog.proofs.Kinded.{apart_of, client_says, group_says, policy_says, pool_says, schedule_says}
 use Rattle.room_catalog.proofs.Updated.{length_put, length_removed}

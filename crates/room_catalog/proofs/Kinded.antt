@@ -12,8 +12,8 @@ use Rattle.catalog_change.specs.declared.resource.Resource.TheVariants as resour
 use Rattle.catalog_change.specs.declared.resource.ResourceKind.{ResourceKind}
 use Rattle.catalog_change.specs.declared.resource.ResourceKind.TheVariants as kinds
 use Rattle.catalog_change.specs.Resources.{client_name, group_name, kind_of, name_of, policy_name, pool_name, schedule_name}
-use Rattle.room_catalog.specs.Fits.{AreDistinct, IsNamed}
-use Rattle.room_catalog.specs.Kinds.{as_client, as_group, as_policy, as_pool, as_schedule}
+use Rattle.resource_lists.specs.Adding.{AreDistinct, IsNamed}
+use Rattle.resource_lists.specs.Kinds.{as_client, as_group, as_policy, as_pool, as_schedule}
 use Rattle.room_catalog.proofs.Found.{Apart}
 
 module _ {X : Type 0} (kind : ResourceKind) (pick : Resource → Option X) (name : X → List ℕ) (says : (r : Resource) (x : X) → pick r ≡ Some x → (kind_of r ≡ kind) × (name_of r ≡ name x)) where

@@ -9,7 +9,8 @@ use Rattle.media_db.specs.declared.volumes.VolumeRec.{VolumeRec}
 use Rattle.client_index.specs.declared.index.SetIndex.{SetIndex}
 use Rattle.catalog_change.specs.declared.slot.FilledSlot.{FilledSlot}
 use Rattle.catalog_change.specs.Resources.{IsShortName}
-use Rattle.room_catalog.specs.Held.{CatalogueLists, Parts, ResourceLists, no_parts, opening_resources}
+use Rattle.room_catalog.specs.Held.{CatalogueLists, Parts, no_parts}
+use Rattle.resource_lists.specs.Lists.{ResourceLists, opening_resources}
 use Rattle.room_catalog.specs.Invariant.{IsHeld}
 
 month : List ℕ

@@ -10,7 +10,7 @@ use Rattle.catalog_change.specs.Resources.{
   schedule_name,
 }
 use Rattle.room_catalog.specs.Fits.{find_slot}
-use Rattle.room_catalog.specs.Kinds.{find_named}
+use Rattle.resource_lists.specs.Kinds.{find_named}
 
 -- the same is found at each name and number
 pub record FindAlike (one other : Catalogue) : Type 0 where

@@ -1,6 +1,5 @@
 -- What a change makes of the lists of a catalogue, each update in its list.
-use Rattle.std.specs.Prelude.{ℕ, ◌+◌, List, [], ◌∷◌, filter_map, Option, Some, None, if◌then◌else◌}
-use Rattle.std.specs.Prelude.{◌≡◌, length}
+use Rattle.std.specs.Prelude.{ℕ, ◌+◌, List, [], ◌∷◌, Option, Some, None, if◌then◌else◌, ◌≡◌, length}
 use Rattle.std.specs.Ordering.{nat_cmp}
 use Rattle.room_base.specs.Ordered.{put_by, remove_by}
 use Rattle.room_base.specs.declared.numbers.Moment.{Moment}
@@ -47,51 +46,10 @@ use Rattle.catalog_change.specs.declared.change.Change.TheVariants.{
   IndexPart,
   FinishedParts,
 }
-use Rattle.catalog_change.specs.declared.resource.Resource.{Resource}
-use Rattle.catalog_change.specs.declared.resource.ResourceKind.{ResourceKind}
-use Rattle.catalog_change.specs.declared.resource.ResourceKind.TheVariants as kinds
 use Rattle.catalog_change.specs.Catalogues.{slot_number}
-use Rattle.catalog_change.specs.Resources.{
-  client_name,
-  group_name,
-  policy_name,
-  pool_name,
-  schedule_name,
-}
 use Rattle.room_catalog.specs.Applying.{begun_row}
-use Rattle.room_catalog.specs.Held.{CatalogueLists, ResourceLists}
-use Rattle.room_catalog.specs.Kinds.{
-  as_client,
-  as_group,
-  as_policy,
-  as_pool,
-  as_schedule,
-  put_each,
-  remove_named,
-}
-
--- ---- resources
-
-abbrev pub with_each : List Resource → ResourceLists → ResourceLists
-with_each new lists = record {
-  policies = put_each policy_name (filter_map as_policy new) lists.policies;
-  pools = put_each pool_name (filter_map as_pool new) lists.pools;
-  clients = put_each client_name (filter_map as_client new) lists.clients;
-  schedules = put_each schedule_name (filter_map as_schedule new) lists.schedules;
-  groups = put_each group_name (filter_map as_group new) lists.groups;
-}
-
-abbrev pub without_named : ResourceKind → List ℕ → ResourceLists → ResourceLists
-without_named kinds.Policy name lists =
-    record lists { policies = remove_named policy_name name lists.policies }
-without_named kinds.Pool name lists =
-    record lists { pools = remove_named pool_name name lists.pools }
-without_named kinds.Client name lists =
-    record lists { clients = remove_named client_name name lists.clients }
-without_named kinds.Schedule name lists =
-    record lists { schedules = remove_named schedule_name name lists.schedules }
-without_named kinds.Group name lists =
-    record lists { groups = remove_named group_name name lists.groups }
+use Rattle.room_catalog.specs.Held.{CatalogueLists}
+use Rattle.resource_lists.specs.Changing.{with_each, without_named}
 
 -- ---- volumes
 

@@ -1,20 +1,13 @@
 -- What the catalogue of a running room holds.
-use Rattle.std.specs.Prelude.{◌≡◌, ℕ, List, [], ◌∷◌, codes}
-use Rattle.room_base.specs.declared.numbers.Ssid.{Ssid}
-use Rattle.room_rules.specs.declared.group.Group.{Group}
-use Rattle.room_rules.specs.declared.policy.Policy.{Policy}
-use Rattle.room_rules.specs.declared.policy.Unit.{Unit as PolicyUnit}
-use Rattle.room_rules.specs.declared.policy.Unit.TheVariants.{Months, Years}
-use Rattle.room_rules.specs.declared.pool.Pool.{Pool}
-use Rattle.room_rules.specs.declared.schedule.Schedule.{Schedule}
+use Rattle.std.specs.Prelude.{ℕ, List, []}
 use Rattle.save_stream.specs.declared.entry.IndexEntry.{IndexEntry}
 use Rattle.media_db.specs.declared.records.Record.{Record}
 use Rattle.media_db.specs.declared.volumes.VolumeRec.{VolumeRec}
 use Rattle.client_index.specs.declared.index.SetIndex.{SetIndex}
 use Rattle.client_index.specs.Sets.{entries_or_none}
-use Rattle.catalog_change.specs.declared.resource.Client.{Client}
 use Rattle.catalog_change.specs.declared.slot.FilledSlot.{FilledSlot}
 use Rattle.catalog_change.specs.Catalogues.{Catalogue}
+use Rattle.resource_lists.specs.Lists.{ResourceLists, ResourceRoom, opening_resources}
 
 -- the parts of an index that wait for the change that closes them: their set, how many there are,
 -- and their entries joined
@@ -31,14 +24,6 @@ pub record HeldParts : Type 0 where
 abbrev pub no_parts : Parts
 no_parts = record { ssid = 0; count = 0; entries = [] }
 
--- the lists of resources, each in the order of the names
-pub record ResourceLists : Type 0 where
-  pub policies : List Policy
-  pub pools : List Pool
-  pub clients : List Client
-  pub schedules : List Schedule
-  pub groups : List Group
-
 -- everything that a catalogue holds, as lists
 pub record CatalogueLists : Type 0 where
   pub number : ℕ
@@ -52,14 +37,6 @@ pub record CatalogueLists : Type 0 where
   pub sets : List SetIndex
   pub parts : Parts
 
--- how many more resources of each kind fit without taking memory
-pub record ResourceRoom : Type 0 where
-  pub policies : ℕ
-  pub pools : ℕ
-  pub clients : ℕ
-  pub schedules : ℕ
-  pub groups : ℕ
-
 -- What fits without taking memory: so many more of each, so many entries of parts in all, and so
 -- many copies in the list that a record gets next.
 pub record CatalogueRoom : Type 0 where
@@ -70,11 +47,6 @@ pub record CatalogueRoom : Type 0 where
   pub indexes : ℕ
   pub entries : ℕ
   pub copies : ℕ
-
--- the resources in memory
-pub record HeldResources : Type 0 where
-  pub lists : ResourceLists
-  pub room : ResourceRoom
 
 -- the filled slots in memory
 pub record HeldSlots : Type 0 where
@@ -118,36 +90,6 @@ resources_of catalogue = record {
 }
 
 -- ---- the catalogue of a room that has just been made
-
-abbrev pub lasting : List ℕ → PolicyUnit → Policy
-lasting name unit = record { name = name; count = 1; unit = unit }
-
--- the pool without criteria, which takes what no other takes
-abbrev pub default_pool : Pool
-default_pool = record {
-  name = codes "Default";
-  groups = [];
-  clients = [];
-  sets = [];
-  levels = [];
-}
-
--- the client of the room's own saves
-abbrev pub room_client : Client
-room_client = record {
-  name = codes "room";
-  browse = codes "Month";
-  retention = codes "Year";
-}
-
-abbrev pub opening_resources : ResourceLists
-opening_resources = record {
-  policies = lasting (codes "Month") Months ∷ (lasting (codes "Year") Years ∷ []);
-  pools = default_pool ∷ [];
-  clients = room_client ∷ [];
-  schedules = [];
-  groups = [];
-}
 
 abbrev pub opening_catalogue : Catalogue
 opening_catalogue = record {

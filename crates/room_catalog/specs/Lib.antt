@@ -1,10 +1,8 @@
 pub mod Held
-pub mod Kinds
 pub mod Fits
 pub mod Ready
 pub mod Applying
 pub mod Changing
 pub mod Views
 pub mod Invariant
-pub mod Counts
 pub mod Alike

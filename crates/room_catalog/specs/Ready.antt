@@ -1,5 +1,5 @@
 -- What a change that is applied takes of the room, and when it is ready.
-use Rattle.std.specs.Prelude.{◌≡◌, ℕ, ◌+◌, ◌*◌, ◌≤◌, ◌<◌, List, [], length, filter_map}
+use Rattle.std.specs.Prelude.{◌≡◌, ℕ, ◌+◌, ◌*◌, ◌≤◌, ◌<◌, List, [], length}
 use Rattle.catalog_change.specs.declared.change.Change.{Change}
 use Rattle.catalog_change.specs.declared.change.Change.TheVariants.{
   Begun,
@@ -16,32 +16,8 @@ use Rattle.catalog_change.specs.declared.resource.Resource.{Resource}
 use Rattle.catalog_change.specs.Changes.{IsCount, max_part}
 use Rattle.catalog_change.specs.Catalogues.{resource_count}
 use Rattle.room_catalog.specs.Fits.{max_copies}
-use Rattle.room_catalog.specs.Held.{
-  CatalogueLists,
-  CatalogueRoom,
-  HeldCatalogue,
-  ResourceRoom,
-  catalogue_of,
-}
-use Rattle.room_catalog.specs.Kinds.{as_client, as_group, as_policy, as_pool, as_schedule}
-
--- ---- room for resources
-
--- there is room for these
-pub record HasRoomFor (room : ResourceRoom) (new : List Resource) : Type 0 where
-  pub policies : length (filter_map as_policy new) ≤ room.policies
-  pub pools : length (filter_map as_pool new) ≤ room.pools
-  pub clients : length (filter_map as_client new) ≤ room.clients
-  pub schedules : length (filter_map as_schedule new) ≤ room.schedules
-  pub groups : length (filter_map as_group new) ≤ room.groups
-
--- the second room is no less, where these were put into the first
-pub record KeepsRoomBeside (new : List Resource) (before after : ResourceRoom) : Type 0 where
-  pub policies : before.policies ≤ after.policies + length (filter_map as_policy new)
-  pub pools : before.pools ≤ after.pools + length (filter_map as_pool new)
-  pub clients : before.clients ≤ after.clients + length (filter_map as_client new)
-  pub schedules : before.schedules ≤ after.schedules + length (filter_map as_schedule new)
-  pub groups : before.groups ≤ after.groups + length (filter_map as_group new)
+use Rattle.room_catalog.specs.Held.{CatalogueRoom, HeldCatalogue, catalogue_of}
+use Rattle.resource_lists.specs.Room.{HasRoomFor, KeepsRoomBeside}
 
 -- ---- changes
 

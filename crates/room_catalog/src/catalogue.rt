@@ -8,9 +8,10 @@ ghost use Rattle.catalog_change.specs.Changes.{IsChange};
 ghost use Rattle.catalog_change.specs.Resources.{client_name, group_name, policy_name, pool_name};
 ghost use Rattle.catalog_change.specs.Resources.{schedule_name};
 ghost use Rattle.room_catalog.specs.Applying.{Applies, parts_after};
-ghost use Rattle.room_catalog.specs.Fits.{Fits, FitsParts, StayWithin, find_slot};
+ghost use Rattle.room_catalog.specs.Fits.{Fits, FitsParts, find_slot};
+ghost use Rattle.resource_lists.specs.Adding.{StayWithin};
 ghost use Rattle.room_catalog.specs.Held.{catalogue_of, no_parts, opening_catalogue};
-ghost use Rattle.room_catalog.specs.Kinds.{find_named};
+ghost use Rattle.resource_lists.specs.Kinds.{find_named};
 ghost use Rattle.room_catalog.specs.Ready.{IsReady, KeepsRoom, TakesRoom};
 
 use crate::copy_room::CopyRoom;

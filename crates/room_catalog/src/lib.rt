@@ -3,17 +3,13 @@
 //! docs/definitions.md says what the words of the contracts mean.
 #![tactic(auto)]
 
-mod addable;
 mod catalogue;
 mod copy_room;
-mod counts;
 mod fitting;
 mod kept;
 mod laws;
-mod named;
 mod parts;
 mod preparing;
-mod resources;
 mod saves;
 mod slots;
 mod volumes;

@@ -4,10 +4,10 @@ use Rattle.std.specs.Prelude.{filter_map}
 use Rattle.std.proofs.lemmas.List.Elements.{filter_map-append}
 use Rattle.catalog_change.specs.declared.resource.Resource.{Resource}
 use Rattle.catalog_change.specs.declared.resource.Resource.TheVariants as resources
-use Rattle.room_catalog.specs.Changing.{with_each}
-use Rattle.room_catalog.specs.Held.{HeldResources, ResourceLists, ResourceRoom}
-use Rattle.room_catalog.specs.Kinds.{as_client, as_group, as_policy, as_pool, as_schedule}
-use Rattle.room_catalog.specs.Ready.{HasRoomFor, KeepsRoomBeside}
+use Rattle.resource_lists.specs.Changing.{with_each}
+use Rattle.resource_lists.specs.Lists.{HeldResources, ResourceLists, ResourceRoom}
+use Rattle.resource_lists.specs.Kinds.{as_client, as_group, as_policy, as_pool, as_schedule}
+use Rattle.resource_lists.specs.Room.{HasRoomFor, KeepsRoomBeside}
 
 pub kind_first : {X Y : Type 0} (kind : X → Option Y) (x : X) (xs : List X) → length (filter_map kind (x ∷ xs)) ≡ length (filter_map kind (x ∷ [])) + length (filter_map kind xs)
 kind_first kind x xs = ap length (filter_map-append kind (x ∷ []) xs) ∙ length-append (filter_map kind (x ∷ [])) (filter_map kind xs)

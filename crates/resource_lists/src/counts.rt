@@ -2,7 +2,7 @@
 
 ghost use Rattle.std.specs.Prelude.{◌≡◌, ◌+◌};
 ghost use Rattle.catalog_change.specs.Changes.{IsCount};
-ghost use Rattle.room_catalog.specs.Counts.{AreBelow, counted, with_one};
+ghost use Rattle.resource_lists.specs.Counts.{AreBelow, counted, with_one};
 
 use catalog_change::Resource;
 

@@ -1,5 +1,5 @@
 use Rattle.std.proofs.Common.{length}
-use Rattle.room_catalog.specs.Fits.{AreDistinct}
+use Rattle.resource_lists.specs.Adding.{AreDistinct}
 use Rattle.room_catalog.proofs.addable.are_distinct.Given as goal
 
 abbrev pub invariant-loop-rest : goal.invariant-loop-rest

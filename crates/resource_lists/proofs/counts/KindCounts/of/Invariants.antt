@@ -1,5 +1,5 @@
 use Rattle.std.proofs.Common.{◌≡◌, take}
-use Rattle.room_catalog.specs.Counts.{counted}
+use Rattle.resource_lists.specs.Counts.{counted}
 use Rattle.room_catalog.proofs.counts.KindCounts.of.Given as goal
 
 abbrev pub invariant-loop-resource : goal.invariant-loop-resource

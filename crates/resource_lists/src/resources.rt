@@ -4,12 +4,12 @@ ghost use Rattle.std.specs.Prelude.{◌≡◌, ◌↔◌, [], IfOk, OnOk, IsTrue
 ghost use Rattle.std.specs.Prelude.{◌∷◌, option_copied};
 ghost use Rattle.catalog_change.specs.Resources.{client_name, group_name, policy_name, pool_name};
 ghost use Rattle.catalog_change.specs.Resources.{schedule_name};
-ghost use Rattle.room_catalog.specs.Counts.{counts_of};
-ghost use Rattle.room_catalog.specs.Changing.{with_each, without_named};
-ghost use Rattle.room_catalog.specs.Fits.{HasResource};
-ghost use Rattle.room_catalog.specs.Held.{default_pool, lasting, opening_resources, room_client};
-ghost use Rattle.room_catalog.specs.Kinds.{AreInOrder, find_named};
-ghost use Rattle.room_catalog.specs.Ready.{HasRoomFor, KeepsRoomBeside};
+ghost use Rattle.resource_lists.specs.Counts.{counts_of};
+ghost use Rattle.resource_lists.specs.Changing.{with_each, without_named};
+ghost use Rattle.resource_lists.specs.Adding.{HasResource};
+ghost use Rattle.resource_lists.specs.Lists.{default_pool, lasting, opening_resources, room_client};
+ghost use Rattle.resource_lists.specs.Kinds.{AreInOrder, find_named};
+ghost use Rattle.resource_lists.specs.Room.{HasRoomFor, KeepsRoomBeside};
 
 use crate::counts::KindCounts;
 use crate::named::{find, put, remove};
@@ -34,8 +34,8 @@ pub(crate) struct Resources {
 
 impl Model for Resources {
     ghost use Rattle.std.specs.Prelude.{◌-◌, vec_len, vec_capacity};
-    ghost use Rattle.room_catalog.specs.Held.{HeldResources};
-    ghost use Rattle.room_catalog.specs.Kinds.{AreInOrder};
+    ghost use Rattle.resource_lists.specs.Lists.{HeldResources};
+    ghost use Rattle.resource_lists.specs.Kinds.{AreInOrder};
 
     ghost Value = { HeldResources };
 

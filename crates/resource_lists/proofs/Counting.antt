@@ -6,9 +6,9 @@ use Rattle.std.proofs.lemmas.List.{take_more}
 use Rattle.std.proofs.lemmas.List.Elements.{filter_map-append}
 use Rattle.catalog_change.specs.declared.resource.Resource.{Resource}
 use Rattle.catalog_change.specs.declared.resource.Resource.TheVariants as resources
-use Rattle.room_catalog.specs.declared.counts.KindCounts.{KindCounts}
-use Rattle.room_catalog.specs.Counts.{AreBelow, counted, with_one}
-use Rattle.room_catalog.specs.Kinds.{as_client, as_group, as_policy, as_pool, as_schedule}
+use Rattle.resource_lists.specs.declared.counts.KindCounts.{KindCounts}
+use Rattle.resource_lists.specs.Counts.{AreBelow, counted, with_one}
+use Rattle.resource_lists.specs.Kinds.{as_client, as_group, as_policy, as_pool, as_schedule}
 
 module _ {X Y : Type 0} (kind : X → Option Y) where
   length-cons_option : (o : Option Y) (rest : List Y) → length (cons_option o rest) ≤ length rest + 1

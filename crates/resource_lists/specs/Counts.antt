@@ -2,9 +2,9 @@
 use Rattle.std.specs.Prelude.{ℕ, ◌+◌, ◌<◌, List, length, filter_map}
 use Rattle.catalog_change.specs.declared.resource.Resource.{Resource}
 use Rattle.catalog_change.specs.declared.resource.Resource.TheVariants as resources
-use Rattle.room_catalog.specs.declared.counts.KindCounts.{KindCounts}
-use Rattle.room_catalog.specs.Held.{ResourceLists}
-use Rattle.room_catalog.specs.Kinds.{as_client, as_group, as_policy, as_pool, as_schedule}
+use Rattle.resource_lists.specs.declared.counts.KindCounts.{KindCounts}
+use Rattle.resource_lists.specs.Lists.{ResourceLists}
+use Rattle.resource_lists.specs.Kinds.{as_client, as_group, as_policy, as_pool, as_schedule}
 
 abbrev pub counted : List Resource → KindCounts
 counted new = record {

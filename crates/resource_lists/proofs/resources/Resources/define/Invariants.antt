@@ -1,6 +1,6 @@
 use Rattle.std.proofs.Common.{◌≡◌, length}
 use Rattle.std.specs.Vec.Iter.{into_iter_items, into_iter_len}
-use Rattle.room_catalog.proofs.Defining.{Adds}
+use Rattle.resource_lists.proofs.Defining.{Adds}
 use Rattle.room_catalog.proofs.resources.Resources.define.Given as goal
 
 abbrev pub invariant-loop-resource : goal.invariant-loop-resource

@@ -4,9 +4,9 @@ ghost use Rattle.std.specs.Prelude.{◌≡◌, ◌≢◌, ◌+◌, ◌≤◌, �
 ghost use Rattle.std.specs.List.{AllByRecursion};
 ghost use Rattle.catalog_change.specs.Resources.{kind_of, name_of};
 ghost use Rattle.catalog_change.specs.declared.resource.ResourceKind.TheVariants as kinds;
-ghost use Rattle.room_catalog.specs.Fits.{AreAddable, AreDistinct, HasResource, IsNamed};
-ghost use Rattle.room_catalog.specs.Fits.{IsNotMemberOf, IsNotPolicyOf, IsThere, IsUnused};
-ghost use Rattle.room_catalog.specs.Fits.{Refers, StayWithin, max_of_kind};
+ghost use Rattle.resource_lists.specs.Adding.{AreAddable, AreDistinct, HasResource, IsNamed};
+ghost use Rattle.resource_lists.specs.Adding.{IsNotMemberOf, IsNotPolicyOf, IsThere, IsUnused};
+ghost use Rattle.resource_lists.specs.Adding.{Refers, StayWithin, max_of_kind};
 
 use crate::counts::KindCounts;
 use crate::resources::{ROOM_CLIENT, Resources};

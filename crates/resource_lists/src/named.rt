@@ -5,7 +5,7 @@ ghost use Rattle.std.specs.Prelude.{vec_capacity};
 ghost use Rattle.std.specs.Ordering.{nat_cmp};
 ghost use Rattle.std.specs.Cmp.Lexicographic.{slice_cmp};
 ghost use Rattle.room_base.specs.Ordered.{Ascends, IsPlace};
-ghost use Rattle.room_catalog.specs.Kinds.{find_named, put_named, remove_named};
+ghost use Rattle.resource_lists.specs.Kinds.{find_named, put_named, remove_named};
 
 use catalog_change::Client;
 use room_base::{Name, insert_in_room};

@@ -1,5 +1,5 @@
 -- Resources by their kinds.
-use Rattle.std.specs.Prelude.{ℕ, List, [], ◌∷◌, filter_map, Bool, true, false, Option, Some, None}
+use Rattle.std.specs.Prelude.{ℕ, List, [], ◌∷◌, Bool, true, false, Option, Some, None}
 use Rattle.std.specs.Ordering.{nat_cmp}
 use Rattle.std.specs.Cmp.Lexicographic.{slice_cmp}
 use Rattle.room_base.specs.Ordered.{Ascends, find_by, put_by, remove_by}
@@ -19,7 +19,7 @@ use Rattle.catalog_change.specs.Resources.{
   pool_name,
   schedule_name,
 }
-use Rattle.room_catalog.specs.Held.{ResourceLists}
+use Rattle.resource_lists.specs.Lists.{ResourceLists}
 
 -- ---- the resources of one kind
 
