@@ -19,7 +19,7 @@ const MAX_OF_KIND: usize = 256;
 
 impl Resources {
     /// There are at most 256 of each kind, with the new ones.
-    pub(crate) fn room_for(&self, new: &[Resource]) -> bool
+    pub fn room_for(&self, new: &[Resource]) -> bool
         ensures { IsTrue result ↔ StayWithin self.now.lists new.now }
     {
         let now = self.counts();
@@ -32,7 +32,7 @@ impl Resources {
     }
 
     /// Resources that are new and differ, and refer to what is there or among them.
-    pub(crate) fn are_addable(&self, new: &[Resource]) -> bool
+    pub fn are_addable(&self, new: &[Resource]) -> bool
         ensures { IsTrue result ↔ AreAddable self.now.lists new.now }
     {
         are_distinct(new) && self.are_absent(new) && self.all_refer(new)
@@ -89,7 +89,7 @@ impl Resources {
     }
 
     /// None of them needs the resource of this kind and name.
-    pub(crate) fn are_free_of(&self, kind: ResourceKind, name: &[u8]) -> bool
+    pub fn are_free_of(&self, kind: ResourceKind, name: &[u8]) -> bool
         ensures { IsTrue result ↔ IsUnused self.now.lists kind name.now }
     {
         match kind {

@@ -8,17 +8,17 @@ use catalog_change::Resource;
 
 /// A number for each kind of resource.
 #[derive(Clone, Copy, Debug)]
-pub(crate) struct KindCounts {
-    pub(crate) policies: usize,
-    pub(crate) pools: usize,
-    pub(crate) clients: usize,
-    pub(crate) schedules: usize,
-    pub(crate) groups: usize,
+pub struct KindCounts {
+    pub policies: usize,
+    pub pools: usize,
+    pub clients: usize,
+    pub schedules: usize,
+    pub groups: usize,
 }
 
 impl KindCounts {
     /// How many of each kind are among these.
-    pub(crate) fn of(resources: &[Resource]) -> KindCounts
+    pub fn of(resources: &[Resource]) -> KindCounts
         ensures { result ≡ counted resources.now }
     {
         let mut counts = KindCounts {
@@ -49,7 +49,7 @@ impl KindCounts {
     }
 
     /// How many there are in all.
-    pub(crate) fn sum(self) -> usize
+    pub fn sum(self) -> usize
         requires { IsCount (self.policies + self.pools + self.clients + self.schedules
             + self.groups) }
         ensures { result ≡ self.policies + self.pools + self.clients + self.schedules

@@ -2,6 +2,9 @@
 
 ghost use Rattle.std.specs.Prelude.{◌≡◌, ◌↔◌, [], IfOk, OnOk, IsTrue};
 ghost use Rattle.std.specs.Prelude.{◌∷◌, option_copied};
+ghost use Rattle.std.specs.Ordering.{nat_cmp};
+ghost use Rattle.std.specs.Cmp.Lexicographic.{slice_cmp};
+ghost use Rattle.room_base.specs.Ordered.{Ascends};
 ghost use Rattle.catalog_change.specs.Resources.{client_name, group_name, policy_name, pool_name};
 ghost use Rattle.catalog_change.specs.Resources.{schedule_name};
 ghost use Rattle.resource_lists.specs.Counts.{counts_of};
@@ -24,7 +27,7 @@ pub(crate) const ROOM_CLIENT: &str = "room";
 
 /// The resources of a catalogue.
 #[derive(Debug, Drop)]
-pub(crate) struct Resources {
+pub struct Resources {
     policies: Vec<Policy>,
     pools: Vec<Pool>,
     clients: Vec<Client>,
@@ -67,7 +70,7 @@ impl Model for Resources {
 
 impl Resources {
     /// The resources of a room that has just been made.
-    pub(crate) fn opening(alloc: Global) -> Result<Resources, Memory>
+    pub fn opening(alloc: Global) -> Result<Resources, Memory>
         ensures { IfOk result (λ resources. resources.lists ≡ opening_resources) }
     {
         let mut policies = Vec::with_capacity(alloc, 2)?;
@@ -86,74 +89,102 @@ impl Resources {
         })
     }
 
-    pub(crate) fn policies(&self) -> &[Policy]
+    /// Resources in the order of their names. Takes no memory.
+    pub fn of(
+        policies: Vec<Policy>,
+        pools: Vec<Pool>,
+        clients: Vec<Client>,
+        schedules: Vec<Schedule>,
+        groups: Vec<Group>,
+    ) -> Resources
+        requires policies { Ascends (slice_cmp nat_cmp) policy_name policies.items }
+        requires pools { Ascends (slice_cmp nat_cmp) pool_name pools.items }
+        requires clients { Ascends (slice_cmp nat_cmp) client_name clients.items }
+        requires schedules { Ascends (slice_cmp nat_cmp) schedule_name schedules.items }
+        requires groups { Ascends (slice_cmp nat_cmp) group_name groups.items }
+        ensures policies { result.lists.policies ≡ policies.items }
+        ensures pools { result.lists.pools ≡ pools.items }
+        ensures clients { result.lists.clients ≡ clients.items }
+        ensures schedules { result.lists.schedules ≡ schedules.items }
+        ensures groups { result.lists.groups ≡ groups.items }
+    {
+        Resources {
+            policies,
+            pools,
+            clients,
+            schedules,
+            groups,
+        }
+    }
+
+    pub fn policies(&self) -> &[Policy]
         ensures value { result.now ≡ self.now.lists.policies }
         ensures order { AreInOrder self.now.lists }
     {
         &self.policies
     }
 
-    pub(crate) fn pools(&self) -> &[Pool]
+    pub fn pools(&self) -> &[Pool]
         ensures value { result.now ≡ self.now.lists.pools }
         ensures order { AreInOrder self.now.lists }
     {
         &self.pools
     }
 
-    pub(crate) fn clients(&self) -> &[Client]
+    pub fn clients(&self) -> &[Client]
         ensures value { result.now ≡ self.now.lists.clients }
         ensures order { AreInOrder self.now.lists }
     {
         &self.clients
     }
 
-    pub(crate) fn schedules(&self) -> &[Schedule]
+    pub fn schedules(&self) -> &[Schedule]
         ensures value { result.now ≡ self.now.lists.schedules }
         ensures order { AreInOrder self.now.lists }
     {
         &self.schedules
     }
 
-    pub(crate) fn groups(&self) -> &[Group]
+    pub fn groups(&self) -> &[Group]
         ensures value { result.now ≡ self.now.lists.groups }
         ensures order { AreInOrder self.now.lists }
     {
         &self.groups
     }
 
-    pub(crate) fn policy(&self, name: &[u8]) -> Option<&Policy>
+    pub fn policy(&self, name: &[u8]) -> Option<&Policy>
         ensures { option_copied result ≡ find_named policy_name name.now self.now.lists.policies }
     {
         find(&self.policies, name)
     }
 
-    pub(crate) fn pool(&self, name: &[u8]) -> Option<&Pool>
+    pub fn pool(&self, name: &[u8]) -> Option<&Pool>
         ensures { option_copied result ≡ find_named pool_name name.now self.now.lists.pools }
     {
         find(&self.pools, name)
     }
 
-    pub(crate) fn client(&self, name: &[u8]) -> Option<&Client>
+    pub fn client(&self, name: &[u8]) -> Option<&Client>
         ensures { option_copied result ≡ find_named client_name name.now self.now.lists.clients }
     {
         find(&self.clients, name)
     }
 
-    pub(crate) fn schedule(&self, name: &[u8]) -> Option<&Schedule>
+    pub fn schedule(&self, name: &[u8]) -> Option<&Schedule>
         ensures { option_copied result
             ≡ find_named schedule_name name.now self.now.lists.schedules }
     {
         find(&self.schedules, name)
     }
 
-    pub(crate) fn group(&self, name: &[u8]) -> Option<&Group>
+    pub fn group(&self, name: &[u8]) -> Option<&Group>
         ensures { option_copied result ≡ find_named group_name name.now self.now.lists.groups }
     {
         find(&self.groups, name)
     }
 
     /// The resource of this kind and name is there.
-    pub(crate) fn has(&self, kind: ResourceKind, name: &[u8]) -> bool
+    pub fn has(&self, kind: ResourceKind, name: &[u8]) -> bool
         ensures { IsTrue result ↔ HasResource self.now.lists kind name.now }
     {
         match kind {
@@ -166,7 +197,7 @@ impl Resources {
     }
 
     /// How many there are of each kind.
-    pub(crate) fn counts(&self) -> KindCounts
+    pub fn counts(&self) -> KindCounts
         ensures { result ≡ counts_of self.now.lists }
     {
         KindCounts {
@@ -179,7 +210,7 @@ impl Resources {
     }
 
     /// Makes room for more.
-    pub(crate) fn reserve(&mut self, more: &[Resource]) -> Result<(), Memory>
+    pub fn reserve(&mut self, more: &[Resource]) -> Result<(), Memory>
         ensures lists { self.new.lists ≡ self.old.lists }
         ensures no_less { KeepsRoomBeside [] self.old.room self.new.room }
         ensures ok { OnOk result (HasRoomFor self.new.room more.now) }
@@ -194,7 +225,7 @@ impl Resources {
     }
 
     /// Adds resources. There is room, and no memory is taken.
-    pub(crate) fn define(&mut self, new: Items<Resource>)
+    pub fn define(&mut self, new: Items<Resource>)
         requires room { HasRoomFor self.old.room new }
         ensures lists { self.new.lists ≡ with_each new self.old.lists }
         ensures room { KeepsRoomBeside new self.old.room self.new.room }
@@ -220,7 +251,7 @@ impl Resources {
     }
 
     /// Removes the resource of this kind and name, if it is there. Takes no memory.
-    pub(crate) fn remove(&mut self, kind: ResourceKind, name: &[u8])
+    pub fn remove(&mut self, kind: ResourceKind, name: &[u8])
         ensures lists { self.new.lists ≡ without_named kind name.now self.old.lists }
         ensures room { KeepsRoomBeside [] self.old.room self.new.room }
     {

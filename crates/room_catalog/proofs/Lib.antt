@@ -9,4 +9,5 @@ pub mod KeptVolumes
 pub mod KeptIndexes
 pub mod KeptResources
 pub mod KeptCatalogue
+pub mod Waiting
 pub mod Opening

@@ -4,6 +4,7 @@ use Rattle.std.specs.Ordering.{nat_cmp}
 use Rattle.room_base.specs.Ordered.{put_by, remove_by}
 use Rattle.room_base.specs.declared.numbers.Moment.{Moment}
 use Rattle.room_base.specs.declared.numbers.Ssid.{Ssid}
+use Rattle.save_stream.specs.declared.entry.IndexEntry.{IndexEntry}
 use Rattle.media_db.specs.Edits.{
   aborted,
   amended,
@@ -47,8 +48,8 @@ use Rattle.catalog_change.specs.declared.change.Change.TheVariants.{
   FinishedParts,
 }
 use Rattle.catalog_change.specs.Catalogues.{slot_number}
-use Rattle.room_catalog.specs.Applying.{begun_row}
-use Rattle.room_catalog.specs.Held.{CatalogueLists}
+use Rattle.room_catalog.specs.Applying.{begun_row, with_part}
+use Rattle.room_catalog.specs.Held.{CatalogueLists, Parts, no_parts}
 use Rattle.resource_lists.specs.Changing.{with_each, without_named}
 
 -- ---- volumes
@@ -155,3 +156,26 @@ changed number m change lists =
 abbrev pub HasWholeDigest : Change → Type 0
 HasWholeDigest (Finished ssid files bytes digest sections index) = length digest ≡ 32
 HasWholeDigest _ = Unit {0}
+
+-- ---- with the parts of an index
+
+-- the change with the index that the parts before it hold
+abbrev pub with_index : Parts → Change → Change
+with_index parts (FinishedParts ssid files bytes digest sections) =
+    Finished ssid files bytes digest sections parts.entries
+with_index parts change = change
+
+-- the lists after a change that isn't a part: no part waits then
+abbrev pub catalogue_after : Moment → Change → CatalogueLists → CatalogueLists
+catalogue_after m change lists = record
+    (changed (lists.number + 1) m (with_index lists.parts change) lists) { parts = no_parts }
+
+-- the lists with one part more that waits
+abbrev pub with_part_waiting : Ssid → ℕ → List IndexEntry → CatalogueLists → CatalogueLists
+with_part_waiting ssid part index lists =
+    record lists { parts = with_part ssid part index lists.parts }
+
+-- the lists after any change
+abbrev pub lists_after : Moment → Change → CatalogueLists → CatalogueLists
+lists_after m (IndexPart ssid part index) lists = with_part_waiting ssid part index lists
+lists_after m change lists = catalogue_after m change lists

@@ -8,6 +8,7 @@ ghost use Rattle.catalog_change.specs.Changes.{IsChange};
 ghost use Rattle.catalog_change.specs.Resources.{client_name, group_name, policy_name, pool_name};
 ghost use Rattle.catalog_change.specs.Resources.{schedule_name};
 ghost use Rattle.room_catalog.specs.Applying.{Applies, parts_after};
+ghost use Rattle.room_catalog.specs.Changing.{lists_after};
 ghost use Rattle.room_catalog.specs.Fits.{Fits, FitsParts, find_slot};
 ghost use Rattle.resource_lists.specs.Adding.{StayWithin};
 ghost use Rattle.room_catalog.specs.Held.{catalogue_of, no_parts, opening_catalogue};
@@ -18,7 +19,7 @@ use crate::copy_room::CopyRoom;
 use crate::fitting::MAX_NUMBER;
 use crate::kept::Kept;
 use crate::parts::PendingParts;
-use crate::resources::Resources;
+use resource_lists::Resources;
 use crate::slots::Slots;
 use catalog_change::{Change, Client, FilledSlot, Resource};
 use client_index::ClientIndex;
@@ -255,6 +256,7 @@ impl Catalogue {
         requires moment { m.0 ≤ max_moment }
         ensures applied { Applies (catalogue_of self.old.lists) self.old.lists.parts.entries m
             change (catalogue_of self.new.lists) }
+        ensures lists { self.new.lists ≡ lists_after m change self.old.lists }
         ensures parts { self.new.lists.parts ≡ parts_after change self.old.lists.parts }
         ensures room { TakesRoom change self.old.room self.new.room }
     {

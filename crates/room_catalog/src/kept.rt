@@ -10,7 +10,7 @@ ghost use Rattle.room_catalog.specs.Views.{held_of};
 
 use crate::copy_room::CopyRoom;
 use crate::parts::PendingParts;
-use crate::resources::Resources;
+use resource_lists::Resources;
 use crate::saves::{begun_record, purge};
 use crate::slots::Slots;
 use crate::volumes::lay_volume;

@@ -5,7 +5,7 @@ use Rattle.std.proofs.lemmas.Bool.{false≢true}
 use Rattle.catalog_change.specs.Resources.{kind_of, name_of}
 use Rattle.catalog_change.specs.declared.resource.Resource.{Resource}
 use Rattle.resource_lists.specs.Adding.{AreDistinct, IsNamed}
-use Rattle.room_catalog.proofs.addable.are_distinct.Goals as goal
+use Rattle.resource_lists.proofs.addable.are_distinct.Goals as goal
 
 abbrev Differs : Resource → List Resource → Type 0
 Differs one = AllByRecursion (λ other. ¬ IsNamed (kind_of one) (name_of one) other)

@@ -3,7 +3,7 @@ use Rattle.std.specs.Cmp.Lexicographic.{slice_cmp, nat_list_cmp_total}
 use Rattle.std.specs.Ordering.{nat_cmp}
 use Rattle.std.proofs.lemmas.Fn.{always_returns_same}
 use Rattle.room_base.proofs.OrderedLists.{searched}
-use Rattle.room_catalog.proofs.named.place.Goals as goal
+use Rattle.resource_lists.proofs.named.place.Goals as goal
 
 -- the closure compares with the name that was passed
 pub returns : goal.returns

@@ -3,7 +3,7 @@ use Rattle.std.specs.Ordering.{nat_cmp}
 use Rattle.std.specs.Cmp.Lexicographic.{slice_cmp, nat_list_cmp_total}
 use Rattle.room_base.specs.Ordered.{Ascends}
 use Rattle.room_base.proofs.OrderedUpdates.{ascends_put, put_at, put_between}
-use Rattle.room_catalog.proofs.named.put.Goals as goal
+use Rattle.resource_lists.proofs.named.put.Goals as goal
 
 pub returns-in-Ok-clause-items : goal.returns-in-Ok-clause-items
 returns-in-Ok-clause-items g c =

@@ -3,7 +3,7 @@ use Rattle.std.specs.Ordering.{nat_cmp}
 use Rattle.std.specs.Cmp.Lexicographic.{slice_cmp, nat_list_cmp_total}
 use Rattle.room_base.specs.Ordered.{Ascends}
 use Rattle.room_base.proofs.OrderedUpdates.{ascends_removed, none_removed, removed_at}
-use Rattle.room_catalog.proofs.named.remove.Goals as goal
+use Rattle.resource_lists.proofs.named.remove.Goals as goal
 
 pub returns-in-Ok-clause-items : goal.returns-in-Ok-clause-items
 returns-in-Ok-clause-items g c =

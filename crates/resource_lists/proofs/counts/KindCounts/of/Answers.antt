@@ -2,7 +2,7 @@ use Rattle.std.proofs.Common.{◌∙◌, ap, sym, subst, take, length-take, arit
 use Rattle.std.proofs.lemmas.List.{take_all}
 use Rattle.resource_lists.specs.Counts.{AreBelow, counted}
 use Rattle.resource_lists.proofs.Counting.{counted_below, counted_more}
-use Rattle.room_catalog.proofs.counts.KindCounts.of.Goals as goal
+use Rattle.resource_lists.proofs.counts.KindCounts.of.Goals as goal
 
 pub add-requires : goal.add-requires
 add-requires c =

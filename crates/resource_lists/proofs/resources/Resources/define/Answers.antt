@@ -3,7 +3,7 @@ use Rattle.std.specs.Vec.Iter.{into_iter_items, into_iter_len}
 use Rattle.catalog_change.specs.declared.resource.Resource.{Resource}
 use Rattle.resource_lists.specs.Room.{HasRoomFor}
 use Rattle.resource_lists.proofs.Defining.{Adds, adds_all, adds_none, adds_one, room_for_first}
-use Rattle.room_catalog.proofs.resources.Resources.define.Goals as goal
+use Rattle.resource_lists.proofs.resources.Resources.define.Goals as goal
 
 pub loop-resource-init : goal.loop-resource-init
 loop-resource-init c =

@@ -1,7 +1,7 @@
 use Rattle.std.proofs.Common.{◌≡◌, length}
 use Rattle.std.specs.Vec.Iter.{into_iter_items, into_iter_len}
 use Rattle.resource_lists.proofs.Defining.{Adds}
-use Rattle.room_catalog.proofs.resources.Resources.define.Given as goal
+use Rattle.resource_lists.proofs.resources.Resources.define.Given as goal
 
 abbrev pub invariant-loop-resource : goal.invariant-loop-resource
 invariant-loop-resource l = record {

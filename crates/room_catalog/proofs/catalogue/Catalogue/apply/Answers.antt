@@ -11,6 +11,7 @@ use Rattle.room_catalog.specs.Ready.{IsReady, TakesRoom}
 use Rattle.room_catalog.specs.Views.{held_of}
 use Rattle.room_catalog.proofs.Applied.{IsNoPart, applied_to, closed_to, is_no_part, no_parts_after, parts_stay, takes_from_more}
 use Rattle.room_catalog.proofs.KeptCatalogue.{stays_allowed}
+use Rattle.room_catalog.proofs.Waiting.{lists_closed, lists_made}
 use Rattle.room_catalog.proofs.catalogue.Catalogue.apply.Goals as goal
 
 pub invariant_of-self-in-FinishedParts : goal.invariant_of-self-in-FinishedParts
@@ -70,7 +71,17 @@ returns-in_default c =
     let now = held_of c.change-in_default.new.self in
     rw (← c.self.view_is) (record {
       applied = applied_to c.args.number c.args.m old.lists c.clear.new.self.parts c.self.invariant.catalogue next now.lists change (no_part c) fits.1 made.lists;
+      lists = lists_made c.args.number c.args.m old.lists now.lists c.clear.new.self.parts c.clear.ensures.parts next change (no_part c) made.lists;
       parts = ap (λ (lists : CatalogueLists). lists.parts) made.lists ∙ parts_stay c.args.number c.args.m change (record old.lists { parts = c.clear.new.self.parts }) ∙ c.clear.ensures.parts
           ∙ no_parts_after change old.lists.parts (no_part c);
       room = takes_from_more change old.room now.room c.clear.new.self.capacity c.clear.ensures.capacity made.room;
     })
+
+pub returns-in-FinishedParts-clause-lists : goal.returns-in-FinishedParts-clause-lists
+returns-in-FinishedParts-clause-lists c =
+    let old = (held_of c.self.inside.kept).lists in
+    let next = rw (← c.self.view_is) at c.requires.number in
+    let step = c.in-FinishedParts in
+    rw (← c.self.view_is)
+    (lists_closed c.args.number c.args.m old (held_of c.change.new.self).lists c.take.new.self.parts c.take.ensures.parts next c.args.change step.ssid step.files step.bytes step.digest step.sections c.of-index.result step.is
+    (c.of-index.ensures ∙ c.take.ensures.entries) c.change.ensures.lists)
