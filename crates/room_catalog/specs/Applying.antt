@@ -1,24 +1,7 @@
 -- What a change makes of a catalogue, look-up by look-up.
-use Rattle.std.specs.Prelude.{
-  ◌≡◌,
-  ℕ,
-  ◌+◌,
-  List,
-  [],
-  ◌∷◌,
-  ◌++◌,
-  replicate,
-  Bool,
-  Option,
-  Some,
-  None,
-  false,
-  ◌&&◌,
-  ◌==◌,
-  if◌then◌else◌,
-  filter_map,
-  option_map,
-}
+use Rattle.std.specs.Prelude.{◌≡◌, ℕ, ◌+◌, List, [], ◌∷◌, ◌++◌, replicate, Bool}
+use Rattle.std.specs.Prelude.{Option, Some, None}
+use Rattle.std.specs.Prelude.{true, false, ◌&&◌, ◌==◌, if◌then◌else◌, filter_map, option_map}
 use Rattle.std.specs.List.{list_any}
 use Rattle.std.specs.Option.{option_and_then, option_or}
 use Rattle.std.specs.Ordering.{eq_by_cmp, nat_cmp}
@@ -74,7 +57,6 @@ use Rattle.catalog_change.specs.Resources.{
   policy_name,
   pool_name,
   schedule_name,
-  name_of,
 }
 use Rattle.room_catalog.specs.Fits.{find_slot}
 use Rattle.room_catalog.specs.Held.{Parts, no_parts}
@@ -87,7 +69,6 @@ use Rattle.resource_lists.specs.Kinds.{
   find_named,
   is_kind,
 }
-use Rattle.room_catalog.specs.Changing.{changed}
 
 -- ---- numbers
 

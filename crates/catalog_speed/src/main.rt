@@ -1,0 +1,79 @@
+//! `catalog_speed FOLDER TIMES WORK` does its work on the text in the file `journal.0` of a folder so
+//! many times: `decode` and `encode` a change, `read` and `write` a snapshot. It is a measure, which
+//! a script runs and times.
+#![tactic(auto)]
+
+use catalog_text::{decode_change, encode_change};
+use room_base::Name;
+use room_catalog::Catalogue;
+use room_disk::{FolderStore, Store};
+use std::alloc::Global;
+use std::env;
+use std::process::ExitCode;
+
+fn main(rt: HostRuntime) -> ExitCode {
+    match measure(&rt) {
+        Some(()) => ExitCode::SUCCESS,
+        None => ExitCode::FAILURE,
+    }
+}
+
+fn measure(rt: &HostRuntime) -> Option<()> {
+    let alloc = rt.alloc();
+    let folder = word_at(rt, 1)?;
+    let folder = Name::read(alloc, folder.as_bytes(), 4096).ok()?;
+    let times = word_at(rt, 2)?.as_str().parse::<u32>().ok()?;
+    let work = word_at(rt, 3)?;
+    let mut disk = FolderStore::new(rt, alloc, folder);
+    let text = text_of(alloc, &mut disk)?;
+    match work.as_str() {
+        "decode" => decode(alloc, &text, times),
+        "encode" => encode(alloc, &text, times),
+        "read" => read(alloc, &text, times),
+        "write" => write(alloc, &text, times),
+        _ => None,
+    }
+}
+
+fn word_at(rt: &HostRuntime, place: usize) -> Option<String> {
+    env::args(rt).ok()?.skip(place).next()
+}
+
+// The bytes of file 0.
+fn text_of<D: Store>(alloc: Global, disk: &mut D) -> Option<Vec<u8>> {
+    let length = disk.len(0).ok()?;
+    let mut text = Vec::with_capacity(alloc, length as usize).ok()?;
+    text.resize(length as usize, 0).ok()?;
+    disk.read_at(0, 0, &mut text).ok()?;
+    Some(text)
+}
+
+fn decode(alloc: Global, text: &[u8], times: u32) -> Option<()> {
+    for _ in 0..times {
+        decode_change(alloc, text).ok()?;
+    }
+    Some(())
+}
+
+fn encode(alloc: Global, text: &[u8], times: u32) -> Option<()> {
+    let (moment, change) = decode_change(alloc, text).ok()?;
+    for _ in 0..times {
+        encode_change(alloc, moment, &change).ok()?;
+    }
+    Some(())
+}
+
+fn read(alloc: Global, text: &[u8], times: u32) -> Option<()> {
+    for _ in 0..times {
+        Catalogue::read_snapshot(alloc, text, true).ok()?;
+    }
+    Some(())
+}
+
+fn write(alloc: Global, text: &[u8], times: u32) -> Option<()> {
+    let catalogue = Catalogue::read_snapshot(alloc, text, true).ok()?;
+    for _ in 0..times {
+        catalogue.snapshot(alloc, true).ok()?;
+    }
+    Some(())
+}
