@@ -165,10 +165,13 @@ with_index parts (FinishedParts ssid files bytes digest sections) =
     Finished ssid files bytes digest sections parts.entries
 with_index parts change = change
 
+abbrev pub without_parts : CatalogueLists → CatalogueLists
+without_parts lists = record lists { parts = no_parts }
+
 -- the lists after a change that isn't a part: no part waits then
 abbrev pub catalogue_after : Moment → Change → CatalogueLists → CatalogueLists
-catalogue_after m change lists = record
-    (changed (lists.number + 1) m (with_index lists.parts change) lists) { parts = no_parts }
+catalogue_after m change lists =
+    without_parts (changed (lists.number + 1) m (with_index lists.parts change) lists)
 
 -- the lists with one part more that waits
 abbrev pub with_part_waiting : Ssid → ℕ → List IndexEntry → CatalogueLists → CatalogueLists

@@ -8,7 +8,7 @@ ghost use Rattle.catalog_change.specs.Changes.{IsChange};
 ghost use Rattle.catalog_change.specs.Resources.{client_name, group_name, policy_name, pool_name};
 ghost use Rattle.catalog_change.specs.Resources.{schedule_name};
 ghost use Rattle.room_catalog.specs.Applying.{Applies, parts_after};
-ghost use Rattle.room_catalog.specs.Changing.{lists_after};
+ghost use Rattle.room_catalog.specs.Changing.{lists_after, without_parts};
 ghost use Rattle.room_catalog.specs.Fits.{Fits, FitsParts, find_slot};
 ghost use Rattle.resource_lists.specs.Adding.{StayWithin};
 ghost use Rattle.room_catalog.specs.Held.{catalogue_of, no_parts, opening_catalogue};
@@ -285,5 +285,13 @@ impl Catalogue {
                 self.kept.change(number, m, change);
             }
         }
+    }
+
+    /// Drops the parts of an index that wait. Takes no memory.
+    pub fn drop_parts(&mut self)
+        ensures lists { self.new.lists ≡ without_parts self.old.lists }
+        ensures room { KeepsRoom self.old.room self.new.room }
+    {
+        self.kept.parts.clear();
     }
 }

@@ -44,6 +44,14 @@ impl Slots {
         }
     }
 
+    /// Slots in the order of their numbers. Takes no memory.
+    pub(crate) fn of(filled: Vec<FilledSlot>) -> Slots
+        requires { Ascends nat_cmp slot_number filled.items }
+        ensures { result.slots ≡ filled.items }
+    {
+        Slots { filled }
+    }
+
     pub(crate) fn filled(&self) -> &[FilledSlot]
         ensures value { result.now ≡ self.now.slots }
         ensures order { Ascends nat_cmp slot_number self.now.slots }
