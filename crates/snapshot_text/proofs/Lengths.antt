@@ -17,11 +17,11 @@ use Rattle.catalog_text.specs.Resources.{resource_text}
 use Rattle.catalog_text.specs.Sections.{section_text}
 use Rattle.catalog_text.proofs.Lengths.{u32_length, u64_length, length_section}
 use Rattle.catalog_text.proofs.ResourceLengths.{same-items}
-use Rattle.snapshot_text.specs.declared.records.ListedRecord.{ListedRecord}
+use Rattle.snapshot_text.specs.declared.fields.ListedRecord.{ListedRecord}
 use Rattle.snapshot_text.specs.Media.{copy_text, slot_text, slots_text, volume_text, volumes_text}
 use Rattle.snapshot_text.specs.Records.{index_if_text, listed_text, record_text}
 use Rattle.snapshot_text.specs.Snapshots.{front_text, lists_of, rows_text, snapshot_text}
-use Rattle.snapshot_text.specs.declared.lists.ResourceLists.{ResourceLists}
+use Rattle.snapshot_text.specs.declared.fields.ResourceLists.{ResourceLists}
 use Rattle.snapshot_text.specs.Resources.{lists_text}
 use Rattle.snapshot_text.specs.Writing.{listed_by, rows_by}
 use Rattle.client_index.specs.declared.index.SetIndex.{SetIndex}

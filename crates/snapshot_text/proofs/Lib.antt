@@ -1,10 +1,3 @@
-pub mod Ordered
-pub mod HeadLaws
-pub mod MediaLaws
-pub mod RecordLaws
-pub mod Found
-pub mod More
-pub mod Storing
 pub mod CanWrite
 pub mod Sizes
 pub mod Lengths

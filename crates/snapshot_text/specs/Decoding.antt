@@ -4,13 +4,13 @@ use Rattle.std.specs.Prelude.{◌≡◌, ◌⊎◌, ℕ, ◌-◌, ◌<◌, Bool,
 use Rattle.catalog_text.specs.Reading.{Part}
 use Rattle.catalog_text.specs.declared.fault.DecodeFault.{DecodeFault}
 use Rattle.catalog_text.specs.declared.fault.DecodeFault.TheVariants as faults
-use Rattle.snapshot_text.specs.declared.reading.Fields.{Fields}
+use Rattle.snapshot_text.specs.declared.fields.SnapshotFields.{SnapshotFields}
 use Rattle.snapshot_text.specs.declared.parts.Snapshot.{Snapshot}
 use Rattle.snapshot_text.specs.Storing.{set_of}
 use Rattle.snapshot_text.specs.Snapshots.{snapshot_at}
 
 -- a snapshot has what these fields say
-pub record AreMade (fields : Fields) (snapshot : Snapshot) : Type 0 where
+pub record AreMade (fields : SnapshotFields) (snapshot : Snapshot) : Type 0 where
   pub number : snapshot.number ≡ fields.number
   pub last_moment : snapshot.last_moment ≡ fields.last_moment
   pub next_ssid : snapshot.next_ssid ≡ fields.next_ssid
@@ -27,7 +27,7 @@ pub record AreMade (fields : Fields) (snapshot : Snapshot) : Type 0 where
 
 -- the bytes are read to their end as fields that a snapshot has
 pub record IsReadTo (indexed : Bool) (bytes : List ℕ) (snapshot : Snapshot) : Type 0 where
-  pub fields : Fields
+  pub fields : SnapshotFields
   pub read : snapshot_at indexed bytes ≡ Ok (fields, [])
   pub made : AreMade fields snapshot
 
@@ -36,7 +36,7 @@ pub record IsReadTo (indexed : Bool) (bytes : List ℕ) (snapshot : Snapshot) : 
 abbrev pub StopsBefore : Bool → List ℕ → ℕ → Type 0
 StopsBefore indexed bytes behind =
     (snapshot_at indexed bytes ≡ Err behind)
-    ⊎ ((fields : Fields) × ((rest : List ℕ) × ((snapshot_at indexed bytes ≡ Ok (fields, rest))
+    ⊎ ((fields : SnapshotFields) × ((rest : List ℕ) × ((snapshot_at indexed bytes ≡ Ok (fields, rest))
     × (behind ≡ length rest) × (0 < length rest))))
 
 -- reading stops at this place

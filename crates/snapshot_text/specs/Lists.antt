@@ -9,7 +9,7 @@ use Rattle.catalog_change.specs.Resources.{
   pool_name,
   schedule_name,
 }
-use Rattle.snapshot_text.specs.declared.lists.ResourceLists.{ResourceLists}
+use Rattle.snapshot_text.specs.declared.fields.ResourceLists.{ResourceLists}
 
 -- the names of each kind ascend
 pub record AreInOrder (lists : ResourceLists) : Type 0 where

@@ -24,7 +24,7 @@ use Rattle.catalog_text.specs.Fields.{
 use Rattle.catalog_text.specs.Lists.{list_at, list_text}
 use Rattle.catalog_text.specs.Entries.{index_at, index_text}
 use Rattle.catalog_text.specs.Changes.{max_count}
-use Rattle.snapshot_text.specs.declared.records.ListedRecord.{ListedRecord}
+use Rattle.snapshot_text.specs.declared.fields.ListedRecord.{ListedRecord}
 use Rattle.snapshot_text.specs.Media.{is_next_drawn, copies_at, copies_text}
 use Rattle.snapshot_text.specs.Heads.{head_if_at}
 

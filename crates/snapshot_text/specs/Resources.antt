@@ -30,7 +30,7 @@ use Rattle.catalog_text.specs.Resources.{
   resource_text,
 }
 use Rattle.catalog_text.specs.Changes.{max_count}
-use Rattle.snapshot_text.specs.declared.lists.ResourceLists.{ResourceLists}
+use Rattle.snapshot_text.specs.declared.fields.ResourceLists.{ResourceLists}
 use Rattle.snapshot_text.specs.Names.{is_there, is_next_name, name_if_at}
 
 -- ---- the list

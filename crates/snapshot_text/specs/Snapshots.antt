@@ -14,9 +14,9 @@ use Rattle.catalog_text.specs.Fields.{
   moment_at,
 }
 use Rattle.catalog_text.specs.Lists.{list_text}
-use Rattle.snapshot_text.specs.declared.lists.ResourceLists.{ResourceLists}
-use Rattle.snapshot_text.specs.declared.records.ListedRecord.{ListedRecord}
-use Rattle.snapshot_text.specs.declared.reading.Fields.{Fields}
+use Rattle.snapshot_text.specs.declared.fields.ResourceLists.{ResourceLists}
+use Rattle.snapshot_text.specs.declared.fields.ListedRecord.{ListedRecord}
+use Rattle.snapshot_text.specs.declared.fields.SnapshotFields.{SnapshotFields}
 use Rattle.snapshot_text.specs.declared.parts.Snapshot.{Snapshot}
 use Rattle.snapshot_text.specs.declared.parts.SnapshotParts.{SnapshotParts}
 use Rattle.snapshot_text.specs.Resources.{lists_at, lists_text, has_lasting}
@@ -94,7 +94,7 @@ snapshot_text indexed catalogue =
 
 -- ---- how they are read
 
-unfoldable pub snapshot_at : Bool → List ℕ → Part Fields
+unfoldable pub snapshot_at : Bool → List ℕ → Part SnapshotFields
 snapshot_at indexed bytes = do
   kind ← checked (λ byte. byte == 0x42) bytes (byte_at bytes)
   form ← checked (λ byte. byte == 1) kind.1 (byte_at kind.1)

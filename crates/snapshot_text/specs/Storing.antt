@@ -6,8 +6,8 @@ use Rattle.room_base.specs.Ordered.{Ascends}
 use Rattle.save_stream.specs.Spelling.{PathsAscend}
 use Rattle.client_index.specs.declared.index.SetIndex.{SetIndex}
 use Rattle.media_db.specs.Rows.{AreVolumes, HasLowerBase}
-use Rattle.snapshot_text.specs.declared.reading.Fields.{Fields}
-use Rattle.snapshot_text.specs.declared.records.ListedRecord.{ListedRecord}
+use Rattle.snapshot_text.specs.declared.fields.SnapshotFields.{SnapshotFields}
+use Rattle.snapshot_text.specs.declared.fields.ListedRecord.{ListedRecord}
 use Rattle.snapshot_text.specs.Records.{listed_ssid}
 
 -- the index of a record, as the indexes of all sets have it
@@ -20,6 +20,6 @@ pub record AreListed (records : List ListedRecord) : Type 0 where
   pub bases : AllByRecursion (λ listed. HasLowerBase listed.row) records
   pub paths : AllByRecursion (λ listed. PathsAscend listed.index) records
 
-pub record AreStored (fields : Fields) : Type 0 where
+pub record AreStored (fields : SnapshotFields) : Type 0 where
   pub volumes : AreVolumes fields.volumes
   pub records : AreListed fields.records

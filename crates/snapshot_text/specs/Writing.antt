@@ -13,8 +13,8 @@ use Rattle.catalog_text.specs.Lists.{list_text}
 use Rattle.snapshot_text.specs.Records.{listed_text}
 use Rattle.catalog_change.specs.declared.resource.Resource.TheVariants as resources
 use Rattle.catalog_text.specs.Resources.{resource_text}
-use Rattle.snapshot_text.specs.declared.lists.ResourceLists.{ResourceLists}
-use Rattle.snapshot_text.specs.declared.records.ListedRecord.{ListedRecord}
+use Rattle.snapshot_text.specs.declared.fields.ResourceLists.{ResourceLists}
+use Rattle.snapshot_text.specs.declared.fields.ListedRecord.{ListedRecord}
 
 -- a record with the index that its set has
 abbrev pub listed_by : List SetIndex → Record → ListedRecord

@@ -12,8 +12,8 @@ use crate::SnapshotParts;
 use crate::media_writing::{
     put_rows, put_slots, put_volumes, rows_length, slots_length, volumes_length,
 };
+use crate::parts::{FORM, SNAPSHOT_KIND};
 use crate::put_item::{items_length, put_items};
-use crate::reading::{FORM, SNAPSHOT_KIND};
 use crate::resource_writing::{Clients, Groups, Policies, Pools, Schedules};
 use catalog_text::{put_u8, put_u32, put_u64};
 use room_base::Memory;

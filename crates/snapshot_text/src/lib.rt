@@ -1,29 +1,15 @@
-//! How the room's catalogue is spelled as bytes: snapshots in one spelling, which is read back with
-//! the first field that isn't allowed. docs/formats.md has the bytes.
+//! How the room's catalogue is spelled as bytes: snapshots in one spelling. The definitions of how
+//! they are read stand here too, beside those of how they are spelled; the crate `snapshot_reading`
+//! reads by them. docs/formats.md has the bytes.
 #![tactic(auto)]
 
-mod copies;
-mod decode;
 mod encode;
-mod heads;
-mod item;
-mod lists;
+mod fields;
 mod media_writing;
-mod names;
 mod parts;
 mod put_item;
-mod reading;
-mod records;
-mod resource_reading;
 mod resource_writing;
-mod slots;
-mod volumes;
 
-pub use decode::read_snapshot;
 pub use encode::{snapshot, snapshot_into, snapshot_length};
-pub use parts::{Snapshot, SnapshotParts};
-
-#[cfg(test)]
-mod test_texts;
-#[cfg(test)]
-mod tests;
+pub use fields::{ListedRecord, ResourceLists, SnapshotFields};
+pub use parts::{FORM, SNAPSHOT_KIND, Snapshot, SnapshotParts};

@@ -1,11 +1,16 @@
+//! What snapshots are written from, and what they are read to.
+
 use catalog_change::{Client, FilledSlot};
 use client_index::ClientIndex;
 use media_db::MediaDb;
 use room_base::{Moment, Ssid, Volid};
 use room_rules::{Group, Policy, Pool, Schedule};
 
-/// The greatest number of the next save set and of the next volume.
-pub(crate) const MAX_NUMBER: u64 = 9_223_372_036_854_775_807;
+/// The byte that a snapshot begins with.
+pub const SNAPSHOT_KIND: u8 = b'B';
+
+/// The form of snapshots, which follows.
+pub const FORM: u8 = 1;
 
 /// What a snapshot is written from. The resources stand in the order of their names, and the slots
 /// in that of their numbers.
