@@ -1,5 +1,5 @@
 -- What a catalogue holds can be written.
-use Rattle.std.proofs.Common.{◌≡◌, ℕ, ◌+◌, ◌≤◌, ◌<◌, ◌^◌, List, [], ◌∷◌, length, refl, sym, ap, subst, ◌∙◌, arith}
+use Rattle.std.proofs.Common.{ℕ, ◌+◌, ◌≤◌, ◌<◌, ◌^◌, List, [], ◌∷◌, length, ap, arith}
 use Rattle.std.specs.List.{AllByRecursion}
 use Rattle.client_index.specs.declared.index.SetIndex.{SetIndex}
 use Rattle.client_index.specs.Sets.{entries_or_none}
@@ -7,7 +7,7 @@ use Rattle.media_db.specs.declared.copies.CopyState.{CopyState}
 use Rattle.media_db.specs.declared.copies.CopyState.TheVariants as copies
 use Rattle.media_db.specs.declared.copies.SetCopy.{SetCopy}
 use Rattle.media_db.specs.declared.records.Record.{Record}
-use Rattle.catalog_change.specs.Changes.{AreEntries, IsCount}
+use Rattle.catalog_change.specs.Changes.{AreEntries}
 use Rattle.std.specs.Ordering.{nat_cmp}
 use Rattle.room_base.specs.Ordered.{AscendsFrom}
 use Rattle.room_base.proofs.OrderedNumbers.{lesser_number}

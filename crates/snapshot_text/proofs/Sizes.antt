@@ -1,5 +1,5 @@
 -- How long resources are: never so long that the number of their bytes has no room.
-use Rattle.std.proofs.Common.{◌≡◌, ℕ, ◌+◌, ◌*◌, ◌≤◌, ◌<◌, ◌^◌, length, sym, ◌∙◌, arith}
+use Rattle.std.proofs.Common.{◌≡◌, ℕ, ◌+◌, ◌*◌, ◌<◌, ◌^◌, length, ◌∙◌, arith}
 use Rattle.std.specs.Io.Iter.{u64_saturate}
 use Rattle.std.specs.List.{flat_map}
 use Rattle.room_rules.specs.declared.group.Group.{Group}
@@ -8,11 +8,9 @@ use Rattle.room_rules.specs.declared.pool.Pool.{Pool}
 use Rattle.room_rules.specs.declared.schedule.Schedule.{Schedule}
 use Rattle.save_stream.specs.Spelling.{short_text}
 use Rattle.catalog_change.specs.declared.resource.Client.{Client}
-use Rattle.catalog_change.specs.declared.resource.Resource.{Resource}
 use Rattle.catalog_change.specs.declared.resource.Resource.TheVariants as resources
 use Rattle.catalog_change.specs.Resources.{IsPolicy, IsPool, IsClient, IsSchedule, IsGroup}
 use Rattle.catalog_text.specs.Resources.{resource_text, member_text}
-use Rattle.std.proofs.lemmas.List.{length-append}
 use Rattle.catalog_text.proofs.ResourceLengths.{bound_resource, length_policy, length_pool, length_client, length_schedule, length_group}
 
 small : (n : ℕ) → n < 2 ^ 24 → u64_saturate n ≡ n

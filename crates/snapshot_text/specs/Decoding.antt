@@ -1,7 +1,6 @@
 -- What is read of bytes: a snapshot and nothing else, or the place of the first field that isn't
 -- allowed.
 use Rattle.std.specs.Prelude.{◌≡◌, ◌⊎◌, ℕ, ◌-◌, ◌<◌, Bool, List, [], map, length, Result, Ok, Err}
-use Rattle.catalog_text.specs.Reading.{Part}
 use Rattle.catalog_text.specs.declared.fault.DecodeFault.{DecodeFault}
 use Rattle.catalog_text.specs.declared.fault.DecodeFault.TheVariants as faults
 use Rattle.snapshot_text.specs.declared.fields.SnapshotFields.{SnapshotFields}

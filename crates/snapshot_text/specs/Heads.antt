@@ -1,5 +1,5 @@
 -- Heads of streams in a snapshot, whose ssids ascend and were drawn.
-use Rattle.std.specs.Prelude.{ℕ, Bool, ◌&&◌, ◌==◌, nat_lt, List, Ok}
+use Rattle.std.specs.Prelude.{ℕ, Bool, ◌==◌, nat_lt, List, Ok}
 use Rattle.room_base.specs.Numbers.{max_moment}
 use Rattle.save_stream.specs.Reading.{is_level}
 use Rattle.save_stream.specs.declared.head.SetHead.{SetHead}

@@ -1,5 +1,5 @@
 -- Slots, volumes and copies as bytes.
-use Rattle.std.specs.Prelude.{◌≡◌, ℕ, Bool, true, false, not, ◌&&◌, ◌||◌, ◌==◌, nat_lt, nat_le}
+use Rattle.std.specs.Prelude.{ℕ, Bool, true, false, not, ◌&&◌, ◌||◌, ◌==◌, nat_lt, nat_le}
 use Rattle.std.specs.Prelude.{List, [], ◌∷◌, ◌++◌, Ok}
 use Rattle.std.specs.List.{list_any}
 use Rattle.media_db.specs.Edits.{copy_no, has_done, is_done}
@@ -21,17 +21,7 @@ use Rattle.catalog_change.specs.Catalogues.{
   volume_cart,
 }
 use Rattle.catalog_text.specs.Reading.{Part, ◌>>=◌, checked}
-use Rattle.catalog_text.specs.Fields.{
-  byte_text,
-  byte_at,
-  number_bytes,
-  number_at,
-  number_within_at,
-  byte_within_at,
-  is_within,
-  code_at,
-  name_at,
-}
+use Rattle.catalog_text.specs.Fields.{byte_text, byte_at, number_bytes, number_at, number_within_at, is_within, code_at, name_at}
 use Rattle.catalog_text.specs.Lists.{list_at, list_text, last_item, by_item}
 use Rattle.catalog_text.specs.Sections.{section_at, sections_at, sections_text}
 use Rattle.catalog_text.specs.Changes.{max_count}

@@ -1,8 +1,6 @@
 -- Records of save sets as bytes, each with its index where indexes are written.
-use Rattle.std.specs.Prelude.{◌≡◌, ℕ, Bool, true, false, nat_lt, List, [], ◌∷◌, ◌++◌, length, Ok}
-use Rattle.std.specs.Prelude.{if◌then◌else◌}
+use Rattle.std.specs.Prelude.{ℕ, Bool, true, false, nat_lt, List, [], ◌∷◌, ◌++◌, length, Ok}
 use Rattle.media_db.specs.Streams.{head_of}
-use Rattle.media_db.specs.declared.copies.SetCopy.{SetCopy}
 use Rattle.media_db.specs.declared.records.Record.{Record}
 use Rattle.media_db.specs.declared.records.RecordState.{RecordState}
 use Rattle.media_db.specs.declared.records.RecordState.TheVariants as states

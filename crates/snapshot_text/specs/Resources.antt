@@ -1,5 +1,5 @@
 -- The resources of a catalogue as bytes: all kinds in one list.
-use Rattle.std.specs.Prelude.{◌≡◌, ℕ, zero, suc, ◌+◌, Bool, true, ◌&&◌, ◌==◌, List, [], ◌∷◌}
+use Rattle.std.specs.Prelude.{ℕ, zero, suc, ◌+◌, Bool, true, ◌&&◌, ◌==◌, List, [], ◌∷◌}
 use Rattle.std.specs.Prelude.{◌++◌, length, codes, Ok, if◌then◌else◌}
 use Rattle.std.specs.List.{flat_map}
 use Rattle.room_rules.specs.declared.group.Group.{Group}

@@ -1,18 +1,11 @@
 -- Snapshots: all that a catalogue holds, as bytes.
-use Rattle.std.specs.Prelude.{◌≡◌, ℕ, Bool, true, false, ◌==◌, List, ◌++◌, Ok}
+use Rattle.std.specs.Prelude.{ℕ, Bool, ◌==◌, List, ◌++◌, Ok}
 use Rattle.client_index.specs.Sets.{entries_or_none}
 use Rattle.media_db.specs.declared.records.Record.{Record}
 use Rattle.save_stream.specs.declared.entry.IndexEntry.{IndexEntry}
 use Rattle.catalog_change.specs.Catalogues.{Catalogue, max_number}
 use Rattle.catalog_text.specs.Reading.{Part, ◌>>=◌, checked}
-use Rattle.catalog_text.specs.Fields.{
-  byte_text,
-  byte_at,
-  number_bytes,
-  number_at,
-  number_within_at,
-  moment_at,
-}
+use Rattle.catalog_text.specs.Fields.{byte_text, byte_at, number_bytes, number_within_at, moment_at}
 use Rattle.catalog_text.specs.Lists.{list_text}
 use Rattle.snapshot_text.specs.declared.fields.ResourceLists.{ResourceLists}
 use Rattle.snapshot_text.specs.declared.fields.ListedRecord.{ListedRecord}

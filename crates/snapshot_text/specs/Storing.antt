@@ -1,5 +1,5 @@
 -- What is read of a snapshot can be put into a database, as it stands.
-use Rattle.std.specs.Prelude.{ℕ, List}
+use Rattle.std.specs.Prelude.{List}
 use Rattle.std.specs.List.{AllByRecursion}
 use Rattle.std.specs.Ordering.{nat_cmp}
 use Rattle.room_base.specs.Ordered.{Ascends}
