@@ -1,6 +1,6 @@
 -- Heads of streams whose ssids are judged: what is read is spelled so and allowed, and what is
 -- allowed is read.
-use Rattle.std.proofs.Common.{Bool, ◌≡◌, ℕ, ◌<◌, ◌^◌, true, eqb, nat_lt, List, ◌++◌, Ok, refl, sym, ap, subst, arith}
+use Rattle.std.proofs.Common.{Bool, ◌≡◌, ℕ, ◌<◌, ◌^◌, true, cond, eqb, nat_lt, List, ◌∷◌, ◌++◌, length, Ok, Err, refl, sym, ap, subst, ◌∙◌, eq-eqb, arith}
 use Rattle.std.proofs.lemmas.Bool.{eqb-true, lt-ltb, ltb-true}
 use Rattle.room_base.specs.Numbers.{max_moment}
 use Rattle.save_stream.specs.Reading.{is_level}
@@ -16,15 +16,16 @@ use Rattle.catalog_text.proofs.Steps.{start, begin, took, after, then-found, jud
 use Rattle.catalog_text.proofs.Fields.{byte-reads, u64-reads, u64-above, u64-within, number-empty, moment-reads, name-reads, text-reads}
 
 -- a byte that can be one alone
-head_byte-reads : Reads (λ bytes. checked (λ byte. eqb byte 0x48) bytes (byte_at bytes)) (λ byte. byte_text 0x48) (λ byte. byte ≡ 0x48)
-head_byte-reads =
-    let at : List ℕ → Part ℕ = λ bytes. checked (λ byte. eqb byte 0x48) bytes (byte_at bytes) in
-    let reads = checked-reads byte-reads (λ byte. eqb byte 0x48) refl in
+pub given_byte-reads : (given : ℕ) → Reads (λ bytes. checked (λ byte. eqb byte given) bytes (byte_at bytes)) (λ byte. byte_text given) (λ byte. byte ≡ given)
+given_byte-reads given =
+    let at : List ℕ → Part ℕ = λ bytes. checked (λ byte. eqb byte given) bytes (byte_at bytes) in
+    let reads = checked-reads byte-reads (λ byte. eqb byte given) refl in
     record {
       found = λ bytes fits.
-          judged-as at bytes (at bytes) (λ byte rest. Took bytes (byte_text byte) rest × ((byte < 256) × (eqb byte 0x48 ≡ true))) (λ byte rest. Took bytes (byte_text 0x48) rest × (byte ≡ 0x48)) (reads.found bytes fits)
-          (λ byte rest is. let same = eqb-true byte 0x48 is.1.1 in (subst (λ (k : ℕ). Took bytes (byte_text k) rest) same is.0, same));
-      again = λ byte rest is. ap (λ (k : ℕ). Ok (k, rest)) (sym is);
+          judged-as at bytes (at bytes) (λ byte rest. Took bytes (byte_text byte) rest × ((byte < 256) × (eqb byte given ≡ true))) (λ byte rest. Took bytes (byte_text given) rest × (byte ≡ given)) (reads.found bytes fits)
+          (λ byte rest is. let same = eqb-true byte given is.1.1 in (subst (λ (k : ℕ). Took bytes (byte_text k) rest) same is.0, same));
+      again = λ byte rest is.
+          ap (λ (test : Bool). cond test (Ok (given, rest)) (Err (length (given ∷ rest)))) (eq-eqb given given refl) ∙ ap (λ (k : ℕ). Ok (k, rest)) (sym is);
     }
 
 base-reads : (ssid : ℕ) → Reads (λ bytes. checked (λ base. nat_lt base ssid) bytes (number_at 8 bytes)) (number_bytes 8) (λ base. (base < 2 ^ 64) × (nat_lt base ssid ≡ true))
@@ -53,7 +54,7 @@ bytes-read : (allows : ℕ → Bool) → Reads (head_if_at allows) head_bytes (I
 unfolding head_if_at
 bytes-read allows = record {
   found = λ bytes are.
-      then-found head_byte-reads _ _ (begin (head_if_at allows) bytes are) (λ kind rest kind-is goes.
+      then-found (given_byte-reads 0x48) _ _ (begin (head_if_at allows) bytes are) (λ kind rest kind-is goes.
       then-found (ssid-reads allows) _ _ goes (λ ssid rest ssid-is goes.
       then-found (base-reads ssid) _ _ goes (λ base rest base-is goes.
       then-found (level-reads base) _ _ goes (λ level rest level-is goes.
@@ -96,7 +97,7 @@ bytes-read allows = record {
       (after (level-reads head.base.0) _ head.level (omega (arith, is.level), is_level-again head.base.0 head.level is.level is.full)
       (after (base-reads head.ssid.0) _ head.base.0 (omega (arith, is.base, is.ssid.1), lt-ltb head.base.0 head.ssid.0 is.base)
       (after (ssid-reads allows) _ head.ssid.0 (is.ssid.1, both.1)
-      (after head_byte-reads _ 0x48 refl (start (head_if_at allows))))))))))))).goes rest;
+      (after (given_byte-reads 0x48) _ 0x48 refl (start (head_if_at allows))))))))))))).goes rest;
 }
 
 pub head_if-reads : (allows : ℕ → Bool) → Reads (head_if_at allows) head_text (IsHeadIf allows)

@@ -1,3 +1,4 @@
+pub mod Each
 pub mod Ordered
 pub mod HeadLaws
 pub mod MediaLaws

@@ -23,10 +23,16 @@ pub below-is : (one other : List ℕ) → is_below one other ≡ true → slice_
 unfolding is_below
 below-is one other is = less-is (slice_cmp nat_cmp one other) is
 
-last-below : {X : Type 0} (name : X → List ℕ) (last : Option X) (wanted : List ℕ) → by_item true (λ (y : X). is_below (name y) wanted) last ≡ true
+pub last-below : {X : Type 0} (name : X → List ℕ) (last : Option X) (wanted : List ℕ) → by_item true (λ (y : X). is_below (name y) wanted) last ≡ true
     → IfSome last (λ y. slice_cmp nat_cmp (name y) wanted ≡ Less)
 last-below name None wanted is = tt
 last-below name (Some y) wanted is = below-is (name y) wanted is
+
+pub last-above : {X : Type 0} (name : X → List ℕ) (last : Option X) (wanted : List ℕ) → IfSome last (λ y. slice_cmp nat_cmp (name y) wanted ≡ Less)
+    → by_item true (λ (y : X). is_below (name y) wanted) last ≡ true
+unfolding is_below
+last-above name None wanted is = refl
+last-above name (Some y) wanted is = ap is_lt is
 
 -- items behind others, with one more
 pub behind-push : {X : Type 0} (P : List X → X → Type 0) (before xs : List X) (x : X) → AllBehind P before xs → P (before ++ xs) x → AllBehind P before (xs ++ x ∷ [])

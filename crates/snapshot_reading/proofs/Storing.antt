@@ -21,6 +21,7 @@ use Rattle.snapshot_text.specs.declared.fields.ListedRecord.{ListedRecord}
 use Rattle.snapshot_text.specs.Media.{is_next_drawn, volumes_at}
 use Rattle.snapshot_text.specs.Records.{listed_ssid, records_at}
 use Rattle.snapshot_text.specs.Storing.{AreListed}
+use Rattle.snapshot_reading.proofs.Each.{behind-as}
 use Rattle.snapshot_reading.proofs.Found.{taken}
 use Rattle.snapshot_reading.proofs.MediaLaws.{IsNextVolume, volumes-read}
 use Rattle.snapshot_reading.proofs.RecordLaws.{IsIndexIf, IsNextListed, records-read}
@@ -33,10 +34,6 @@ second false b is = cc
 drawn-above : {X : Type 0} (greatest next : ℕ) (key : X → ℕ) (before : List X) (number : ℕ) → is_next_drawn greatest next key before number ≡ true
     → IfSome (last_item before) (λ last. nat_cmp (key last) number ≡ Less)
 drawn-above key-greatest next key before number is = above-is key (last_item before) number (second _ _ is)
-
-behind-as : {X : Type 0} (P Q : List X → X → Type 0) → ((before : List X) (x : X) → P before x → Q before x) → (before xs : List X) → AllBehind P before xs → AllBehind Q before xs
-behind-as P Q weaker before [] each = tt
-behind-as P Q weaker before (x ∷ xs) each = (weaker before x each.0, behind-as P Q weaker (before ++ x ∷ []) xs each.1)
 
 pub volumes-ascend : (next : ℕ) (bytes : List ℕ) (volumes : List VolumeRec) (rest : List ℕ) → AreBytes bytes → volumes_at next bytes ≡ Ok (volumes, rest) → AreVolumes volumes
 volumes-ascend next bytes volumes rest fits is =
