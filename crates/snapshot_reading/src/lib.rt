@@ -1,0 +1,23 @@
+//! Reads snapshots of the room's catalogue, which the crate `snapshot_text` writes and defines. A text
+//! has one first field that isn't allowed, or is the one spelling of a catalogue that is allowed.
+//! docs/formats.md has the bytes.
+#![tactic(auto)]
+
+mod copies;
+mod decode;
+mod heads;
+mod item;
+mod lists;
+mod names;
+mod reading;
+mod records;
+mod resource_reading;
+mod slots;
+mod volumes;
+
+pub use decode::read_snapshot;
+
+#[cfg(test)]
+mod test_texts;
+#[cfg(test)]
+mod tests;

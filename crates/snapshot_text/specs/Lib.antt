@@ -1,0 +1,10 @@
+pub mod Names
+pub mod Lists
+pub mod Resources
+pub mod Media
+pub mod Heads
+pub mod Records
+pub mod Snapshots
+pub mod Storing
+pub mod Decoding
+pub mod Writing
