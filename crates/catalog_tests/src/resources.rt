@@ -134,24 +134,51 @@ fn dropped(alloc: Global, kind: ResourceKind, name: &str) -> Result<Change, Memo
     })
 }
 
-// Defines pool Copies and client beta, and the schedule and group that save alpha and then beta.
-fn define(alloc: Global, catalogue: &mut Catalogue) -> Result<[bool; 3], Memory> {
-    let one = defined(
-        alloc,
-        pool_of(alloc, "Copies")?,
-        client_of(alloc, "beta", "Month")?,
-    )?;
-    let other = defined(alloc, schedule_of(alloc)?, group_of(alloc, "alpha")?)?;
-    let first = step(catalogue, one)?;
-    let absent = step(catalogue, other)?;
-    let last = defined(alloc, schedule_of(alloc)?, group_of(alloc, "beta")?)?;
-    let second = step(catalogue, last)?;
-    Ok([first, absent, second])
+// Pool Copies and client beta.
+fn with_beta(alloc: Global) -> Result<Change, Memory>
+    ensures { IfOk result IsChange }
+{
+    let pool = pool_of(alloc, "Copies")?;
+    let client = client_of(alloc, "beta", "Month")?;
+    defined(alloc, pool, client)
 }
 
-// Defines one of these twice.
+// The schedule, and the group that saves this client.
+fn with_group_of(alloc: Global, client: &str) -> Result<Change, Memory>
+    ensures { IfOk result IsChange }
+{
+    let schedule = schedule_of(alloc)?;
+    let group = group_of(alloc, client)?;
+    defined(alloc, schedule, group)
+}
+
+fn define_beta(alloc: Global, catalogue: &mut Catalogue) -> Result<bool, Memory> {
+    step(catalogue, with_beta(alloc)?)
+}
+
+fn define_group(alloc: Global, catalogue: &mut Catalogue, client: &str) -> Result<bool, Memory> {
+    step(catalogue, with_group_of(alloc, client)?)
+}
+
+// Defines client beta, and a group of alpha and then of beta: alpha isn't there.
+fn define(alloc: Global, catalogue: &mut Catalogue) -> Result<[bool; 3], Memory> {
+    let beta = define_beta(alloc, catalogue)?;
+    let absent = define_group(alloc, catalogue, "alpha")?;
+    let group = define_group(alloc, catalogue, "beta")?;
+    Ok([beta, absent, group])
+}
+
+fn twins(alloc: Global) -> Result<Change, Memory>
+    ensures { IfOk result IsChange }
+{
+    let one = pool_of(alloc, "Twin")?;
+    let other = pool_of(alloc, "Twin")?;
+    defined(alloc, one, other)
+}
+
+// Defines one pool twice.
 fn define_twice(alloc: Global, catalogue: &mut Catalogue) -> Result<bool, Memory> {
-    let change = defined(alloc, pool_of(alloc, "Twin")?, pool_of(alloc, "Twin")?)?;
+    let change = twins(alloc)?;
     step(catalogue, change)
 }
 
@@ -174,19 +201,36 @@ fn drop_used(alloc: Global, catalogue: &mut Catalogue) -> Result<[bool; 4], Memo
     Ok([policy, pool, client, schedule])
 }
 
+// What is there is not defined again, and two of one name are not defined.
+fn define_again(alloc: Global, catalogue: &mut Catalogue) -> Result<[bool; 2], Memory> {
+    let beta = define_beta(alloc, catalogue)?;
+    Ok([beta, define_twice(alloc, catalogue)?])
+}
+
+// The group goes, and then its client.
+fn drop_unused(alloc: Global, catalogue: &mut Catalogue) -> Result<[bool; 2], Memory> {
+    let group = drop_named(alloc, catalogue, ResourceKind::Group, "nightly")?;
+    let client = drop_named(alloc, catalogue, ResourceKind::Client, "beta")?;
+    Ok([group, client])
+}
+
 #[test]
-fn resources_are_defined_and_dropped(rt: HostRuntime) -> Result<(), Fail> {
+fn resources_are_defined(rt: HostRuntime) -> Result<(), Fail> {
     let alloc = rt.alloc();
     let mut catalogue = Catalogue::opening(alloc)?;
     assert_eq!(rt; define(alloc, &mut catalogue)?, [true, false, true]);
-    assert_eq!(rt; define(alloc, &mut catalogue)?, [false, false, false]);
-    assert!(rt; !define_twice(alloc, &mut catalogue)?);
-    assert_eq!(rt;
-        drop_used(alloc, &mut catalogue)?,
-        [false, false, false, false]
-    );
-    assert!(rt; drop_named(alloc, &mut catalogue, ResourceKind::Group, "nightly")?);
-    assert!(rt; drop_named(alloc, &mut catalogue, ResourceKind::Client, "beta")?);
+    assert_eq!(rt; define_again(alloc, &mut catalogue)?, [false, false]);
+    assert_eq!(rt; (catalogue.number(), catalogue.groups().len()), (2, 1));
+    Ok(())
+}
+
+#[test]
+fn resources_are_dropped(rt: HostRuntime) -> Result<(), Fail> {
+    let alloc = rt.alloc();
+    let mut catalogue = Catalogue::opening(alloc)?;
+    assert_eq!(rt; define(alloc, &mut catalogue)?, [true, false, true]);
+    assert_eq!(rt; drop_used(alloc, &mut catalogue)?, [false; 4]);
+    assert_eq!(rt; drop_unused(alloc, &mut catalogue)?, [true, true]);
     assert_eq!(rt; (catalogue.number(), catalogue.clients().len()), (4, 1));
     Ok(())
 }

@@ -110,7 +110,10 @@ fn finish(alloc: Global, catalogue: &mut Catalogue, ssid: u64, bytes: u64) -> Re
 }
 
 /// A record's state, its copies, its next copy, what changed it, and how many entries it has.
-pub(crate) fn seen_of(catalogue: &Catalogue, ssid: u64) -> Option<(RecordState, usize, u32, u64, usize)> {
+pub(crate) fn seen_of(
+    catalogue: &Catalogue,
+    ssid: u64,
+) -> Option<(RecordState, usize, u32, u64, usize)> {
     let row = catalogue.db().record(Ssid(ssid))?;
     let entries = match catalogue.index().entries(Ssid(ssid)) {
         Some(entries) => entries.len(),

@@ -32,7 +32,7 @@ use std::marker::Model;
 /// The catalogue of a room. Contracts see what it holds, as lists, and what it has room for.
 #[derive(Debug, Drop)]
 pub struct Catalogue {
-    kept: Kept,
+    pub(crate) kept: Kept,
 }
 
 impl Model for Catalogue {

@@ -12,6 +12,7 @@ mod parts;
 mod preparing;
 mod saves;
 mod slots;
+mod snapshots;
 mod volumes;
 
 pub use catalog_change::{Change, Client, FilledSlot, Resource, ResourceKind};

@@ -19,8 +19,8 @@ use Rattle.snapshot_text.specs.Records.{records_at, listed_text}
 -- ---- what snapshots are of
 
 -- the catalogue of parts that are lent
-abbrev pub catalogue_of : SnapshotParts → Catalogue
-catalogue_of parts = record {
+abbrev pub catalogue_lent : SnapshotParts → Catalogue
+catalogue_lent parts = record {
   number = parts.number;
   last_moment = parts.last_moment.0;
   next_ssid = parts.next_ssid.0;

@@ -6,7 +6,7 @@ ghost use Rattle.catalog_change.specs.Catalogues.{HasResources, IsCatalogue};
 ghost use Rattle.catalog_text.specs.Writing.{HasRoom, Appends};
 ghost use Rattle.snapshot_text.specs.Resources.{lists_text};
 ghost use Rattle.snapshot_text.specs.Writing.{first_size};
-ghost use Rattle.snapshot_text.specs.Snapshots.{catalogue_of, front_text, lists_of, snapshot_text};
+ghost use Rattle.snapshot_text.specs.Snapshots.{catalogue_lent, front_text, lists_of, snapshot_text};
 
 use crate::SnapshotParts;
 use crate::media_writing::{
@@ -21,9 +21,9 @@ use std::alloc::Global;
 
 /// Writes a catalogue in its one spelling, with its indexes or without.
 pub fn snapshot(alloc: Global, parts: &SnapshotParts, with_indexes: bool) -> Result<Vec<u8>, Memory>
-    requires { IsCatalogue (catalogue_of parts.now) }
+    requires { IsCatalogue (catalogue_lent parts.now) }
     ensures { IfOk result
-        (λ bytes. bytes.items ≡ snapshot_text with_indexes (catalogue_of parts.now)) }
+        (λ bytes. bytes.items ≡ snapshot_text with_indexes (catalogue_lent parts.now)) }
 {
     let length = snapshot_length(parts, with_indexes);
     if length == u64::MAX {
@@ -37,9 +37,9 @@ pub fn snapshot(alloc: Global, parts: &SnapshotParts, with_indexes: bool) -> Res
 /// How many bytes a snapshot has, or the greatest number where that is less.
 #[tactic(auto, using(crate::proofs::Lengths::length_snapshot))]
 pub fn snapshot_length(parts: &SnapshotParts, with_indexes: bool) -> u64
-    requires { IsCatalogue (catalogue_of parts.now) }
+    requires { IsCatalogue (catalogue_lent parts.now) }
     ensures { result
-        ≡ u64_saturate (length (snapshot_text with_indexes (catalogue_of parts.now))) }
+        ≡ u64_saturate (length (snapshot_text with_indexes (catalogue_lent parts.now))) }
 {
     let resources = resources_length(parts);
     let slots = slots_length(parts.slots);
@@ -58,9 +58,9 @@ const FRONT_SIZE: u64 = 34;
 /// Appends the one spelling of a catalogue, with its indexes or without. There is room for it, as
 /// many bytes as `snapshot_length` says, and no memory is taken.
 pub fn snapshot_into(parts: &SnapshotParts, with_indexes: bool, into: &mut Vec<u8>)
-    requires allowed { IsCatalogue (catalogue_of parts.now) }
-    requires room { HasRoom into.old (snapshot_text with_indexes (catalogue_of parts.now)) }
-    ensures { Appends into.old into.new (snapshot_text with_indexes (catalogue_of parts.now)) }
+    requires allowed { IsCatalogue (catalogue_lent parts.now) }
+    requires room { HasRoom into.old (snapshot_text with_indexes (catalogue_lent parts.now)) }
+    ensures { Appends into.old into.new (snapshot_text with_indexes (catalogue_lent parts.now)) }
 {
     put_front(into, parts);
     put_resources(into, parts);
@@ -71,8 +71,8 @@ pub fn snapshot_into(parts: &SnapshotParts, with_indexes: bool, into: &mut Vec<u
 
 // The fields before the lists.
 fn put_front(into: &mut Vec<u8>, parts: &SnapshotParts)
-    requires { HasRoom into.old (front_text (catalogue_of parts.now)) }
-    ensures { Appends into.old into.new (front_text (catalogue_of parts.now)) }
+    requires { HasRoom into.old (front_text (catalogue_lent parts.now)) }
+    ensures { Appends into.old into.new (front_text (catalogue_lent parts.now)) }
 {
     put_u8(into, SNAPSHOT_KIND);
     put_u8(into, FORM);
@@ -84,9 +84,9 @@ fn put_front(into: &mut Vec<u8>, parts: &SnapshotParts)
 
 // All resources behind their count.
 fn put_resources(into: &mut Vec<u8>, parts: &SnapshotParts)
-    requires allowed { HasResources (catalogue_of parts.now) }
-    requires room { HasRoom into.old (lists_text (lists_of (catalogue_of parts.now))) }
-    ensures { Appends into.old into.new (lists_text (lists_of (catalogue_of parts.now))) }
+    requires allowed { HasResources (catalogue_lent parts.now) }
+    requires room { HasRoom into.old (lists_text (lists_of (catalogue_lent parts.now))) }
+    ensures { Appends into.old into.new (lists_text (lists_of (catalogue_lent parts.now))) }
 {
     let held = parts.policies.len() + parts.pools.len() + parts.clients.len();
     put_u32(
@@ -102,8 +102,8 @@ fn put_resources(into: &mut Vec<u8>, parts: &SnapshotParts)
 
 #[tactic(auto, using(crate::proofs::Lengths::length_lists))]
 fn resources_length(parts: &SnapshotParts) -> u64
-    requires { HasResources (catalogue_of parts.now) }
-    ensures { result ≡ u64_saturate (length (lists_text (lists_of (catalogue_of parts.now)))) }
+    requires { HasResources (catalogue_lent parts.now) }
+    ensures { result ≡ u64_saturate (length (lists_text (lists_of (catalogue_lent parts.now)))) }
 {
     4u64.saturating_add(first_length(parts))
         .saturating_add(items_length(&Schedules, parts.schedules))
@@ -112,8 +112,8 @@ fn resources_length(parts: &SnapshotParts) -> u64
 
 // The bytes of policies, pools and clients.
 fn first_length(parts: &SnapshotParts) -> u64
-    requires { HasResources (catalogue_of parts.now) }
-    ensures { result ≡ u64_saturate (first_size (lists_of (catalogue_of parts.now))) }
+    requires { HasResources (catalogue_lent parts.now) }
+    ensures { result ≡ u64_saturate (first_size (lists_of (catalogue_lent parts.now))) }
 {
     items_length(&Policies, parts.policies)
         .saturating_add(items_length(&Pools, parts.pools))

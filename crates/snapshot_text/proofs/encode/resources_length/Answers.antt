@@ -1,5 +1,5 @@
 use Rattle.std.proofs.Common.{arith}
-use Rattle.snapshot_text.specs.Snapshots.{catalogue_of, lists_of}
+use Rattle.snapshot_text.specs.Snapshots.{catalogue_lent, lists_of}
 use Rattle.snapshot_text.proofs.Lengths.{length_lists}
 use Rattle.snapshot_text.proofs.encode.resources_length.Goals as goal
 
@@ -13,5 +13,5 @@ returns c =
       c.first_length.ensures,
       c.items_length.ensures,
       c.items_length-2.ensures,
-      length_lists (lists_of (catalogue_of c.args.parts.now)),
+      length_lists (lists_of (catalogue_lent c.args.parts.now)),
     )

@@ -1,5 +1,5 @@
 use Rattle.std.proofs.Common.{arith}
-use Rattle.snapshot_text.specs.Snapshots.{catalogue_of}
+use Rattle.snapshot_text.specs.Snapshots.{catalogue_lent}
 use Rattle.snapshot_text.proofs.CanWrite.{rows_can, volumes_can}
 use Rattle.snapshot_text.proofs.Lengths.{length_snapshot}
 use Rattle.snapshot_text.proofs.encode.snapshot_length.Goals as goal
@@ -23,5 +23,5 @@ returns c =
       c.slots_length-slots.ensures,
       c.volumes_length-volumes.ensures,
       c.rows_length-records.ensures,
-      length_snapshot c.args.with_indexes (catalogue_of c.args.parts.now),
+      length_snapshot c.args.with_indexes (catalogue_lent c.args.parts.now),
     )
