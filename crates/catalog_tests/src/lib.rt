@@ -7,4 +7,6 @@ mod resources;
 #[cfg(test)]
 mod saves;
 #[cfg(test)]
+mod snapshots;
+#[cfg(test)]
 mod stepping;

@@ -6,3 +6,4 @@ pub mod Changing
 pub mod Views
 pub mod Invariant
 pub mod Alike
+pub mod Reading

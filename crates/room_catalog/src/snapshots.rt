@@ -4,12 +4,21 @@ ghost use Rattle.std.specs.Prelude.{◌≡◌, length, IfOk};
 ghost use Rattle.std.specs.Io.Iter.{u64_saturate};
 ghost use Rattle.catalog_change.specs.Catalogues.{IsCatalogue};
 ghost use Rattle.catalog_text.specs.Writing.{Appends, HasRoom};
-ghost use Rattle.snapshot_text.specs.Snapshots.{catalogue_lent, snapshot_text};
-ghost use Rattle.room_catalog.specs.Held.{catalogue_of};
+ghost use Rattle.snapshot_text.specs.Snapshots.{catalogue_lent, catalogue_read, snapshot_text};
+ghost use Rattle.room_catalog.specs.Held.{catalogue_of, no_parts};
+ghost use Rattle.room_catalog.specs.Reading.{ReadsSnapshot};
+ghost use Rattle.room_catalog.specs.Views.{held_of};
 
 use crate::catalogue::Catalogue;
+use crate::copy_room::CopyRoom;
+use crate::kept::Kept;
+use crate::parts::PendingParts;
+use crate::slots::Slots;
+use catalog_text::DecodeFault;
+use resource_lists::Resources;
 use room_base::Memory;
-use snapshot_text::{SnapshotParts, snapshot, snapshot_into, snapshot_length};
+use snapshot_reading::read_snapshot;
+use snapshot_text::{Snapshot, SnapshotParts, snapshot, snapshot_into, snapshot_length};
 use std::alloc::Global;
 
 impl Catalogue {
@@ -58,6 +67,52 @@ impl Catalogue {
             slots: self.slots(),
             db: self.db(),
             index: self.index(),
+        }
+    }
+
+    /// The catalogue that the bytes of a snapshot spell, in which no part of an index waits; one that
+    /// was written without indexes has none. `Bad` names the first byte of the first field that isn't
+    /// allowed, as docs/formats.md has them.
+    pub fn read_snapshot(
+        alloc: Global,
+        bytes: &[u8],
+        with_indexes: bool,
+    ) -> Result<Catalogue, DecodeFault>
+        ensures { ReadsSnapshot with_indexes bytes.now result }
+    {
+        match read_snapshot(alloc, bytes, with_indexes) {
+            Ok(snapshot) => Ok(Catalogue {
+                kept: Kept::of(alloc, snapshot),
+            }),
+            Err(fault) => Err(fault),
+        }
+    }
+}
+
+impl Kept {
+    // What was read, with no part that waits. Takes no memory.
+    fn of(alloc: Global, snapshot: Snapshot) -> Kept
+        requires { IsCatalogue (catalogue_read snapshot) }
+        ensures catalogue { catalogue_of (held_of result).lists ≡ catalogue_read snapshot }
+        ensures parts { (held_of result).lists.parts ≡ no_parts }
+    {
+        Kept {
+            number: snapshot.number,
+            last_moment: snapshot.last_moment,
+            next_ssid: snapshot.next_ssid,
+            next_volid: snapshot.next_volid,
+            resources: Resources::of(
+                snapshot.policies,
+                snapshot.pools,
+                snapshot.clients,
+                snapshot.schedules,
+                snapshot.groups,
+            ),
+            slots: Slots::of(snapshot.slots),
+            db: snapshot.db,
+            index: snapshot.index,
+            parts: PendingParts::new(alloc),
+            copies: CopyRoom::new(alloc),
         }
     }
 }
