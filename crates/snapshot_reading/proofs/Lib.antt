@@ -1,8 +1,15 @@
 pub mod Each
 pub mod Ordered
+pub mod NameLaws
+pub mod PartLaws
+pub mod ResourceLaws
+pub mod KindLaws
+pub mod ListLaws
+pub mod ResourceRules
 pub mod HeadLaws
 pub mod MediaLaws
 pub mod RecordLaws
+pub mod FieldLaws
 pub mod Found
 pub mod More
 pub mod Storing
