@@ -5,7 +5,6 @@ pub mod PartLaws
 pub mod ResourceLaws
 pub mod KindLaws
 pub mod ListLaws
-pub mod ResourceRules
 pub mod HeadLaws
 pub mod MediaLaws
 pub mod RecordLaws
@@ -13,3 +12,7 @@ pub mod FieldLaws
 pub mod Found
 pub mod More
 pub mod Storing
+pub mod ResourceRules
+pub mod MediaRules
+pub mod RecordRules
+pub mod IndexRules
