@@ -16,3 +16,5 @@ pub mod ResourceRules
 pub mod MediaRules
 pub mod RecordRules
 pub mod IndexRules
+pub mod CatalogueRules
+pub mod Laws
