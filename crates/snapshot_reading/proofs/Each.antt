@@ -9,6 +9,10 @@ pub all-as : {X : Type 0} (P Q : X → Type 0) → ((x : X) → P x → Q x) →
 all-as P Q weaker [] each = tt
 all-as P Q weaker (x ∷ xs) each = (weaker x each.0, all-as P Q weaker xs each.1)
 
+pub all-any : {X : Type 0} (P : X → Type 0) → ((x : X) → P x) → (xs : List X) → AllByRecursion P xs
+all-any P is [] = tt
+all-any P is (x ∷ xs) = (is x, all-any P is xs)
+
 pub all-apart : {X : Type 0} (P Q : X → Type 0) (xs : List X) → AllByRecursion (λ x. P x × Q x) xs → AllByRecursion P xs × AllByRecursion Q xs
 all-apart P Q [] each = (tt, tt)
 all-apart P Q (x ∷ xs) each = let more = all-apart P Q xs each.1 in ((each.0.0, more.0), (each.0.1, more.1))

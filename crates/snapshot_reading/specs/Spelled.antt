@@ -1,0 +1,30 @@
+-- Snapshots and the catalogues that they spell.
+use Rattle.std.specs.Prelude.{◌≡◌, ℕ, Bool, true, false, List, [], Result, Ok, Err}
+use Rattle.catalog_change.specs.Catalogues.{Catalogue, IsCatalogue}
+use Rattle.catalog_text.specs.declared.fault.DecodeFault.{DecodeFault}
+use Rattle.catalog_text.specs.declared.fault.DecodeFault.TheVariants as faults
+use Rattle.snapshot_text.specs.Snapshots.{catalogue_read, snapshot_text}
+use Rattle.snapshot_text.specs.declared.parts.Snapshot.{Snapshot}
+use Rattle.snapshot_reading.specs.Fits.{FitsCatalogue}
+
+-- a catalogue as a text has it, with its indexes or without
+abbrev pub kept_in : Bool → Catalogue → Catalogue
+kept_in true catalogue = catalogue
+kept_in false catalogue = record catalogue { index = λ ssid. [] }
+
+-- the bytes are the one spelling of a catalogue that is allowed
+pub record IsText (indexed : Bool) (bytes : List ℕ) (catalogue : Catalogue) : Type 0 where
+  pub allowed : IsCatalogue catalogue
+  pub fits : FitsCatalogue catalogue
+  pub text : bytes ≡ snapshot_text indexed catalogue
+
+-- the bytes are those of the catalogue that was read, which has no indexes where they have none
+pub record IsSpelled (indexed : Bool) (bytes : List ℕ) (snapshot : Snapshot) : Type 0 where
+  pub is : IsText indexed bytes (catalogue_read snapshot)
+  pub kept : catalogue_read snapshot ≡ kept_in indexed (catalogue_read snapshot)
+
+-- a catalogue is read back as its text has it, unless memory runs out
+abbrev pub IsReadBack : Bool → Catalogue → Result Snapshot DecodeFault → Type 0
+IsReadBack indexed catalogue (Ok snapshot) = catalogue_read snapshot ≡ kept_in indexed catalogue
+IsReadBack indexed catalogue (Err (faults.Bad place)) = ⊥
+IsReadBack indexed catalogue (Err faults.Memory) = Unit {0}
