@@ -4,6 +4,7 @@ ghost use Rattle.std.specs.Prelude.{◌≡◌, ◌-◌, [], map, length, IfOk};
 ghost use Rattle.catalog_text.specs.declared.fault.DecodeFault.TheVariants as faults;
 ghost use Rattle.media_db.specs.Rows.{AreVolumes};
 ghost use Rattle.snapshot_text.specs.Decoding.{AreMade, Decodes};
+ghost use Rattle.snapshot_reading.specs.Spelled.{IsSpelled};
 ghost use Rattle.snapshot_text.specs.Storing.{AreListed, AreStored, set_of};
 
 use crate::reading::read_fields;
@@ -20,7 +21,8 @@ pub fn read_snapshot(
     bytes: &[u8],
     with_indexes: bool,
 ) -> Result<Snapshot, DecodeFault>
-    ensures { Decodes with_indexes bytes.now result }
+    ensures decodes { Decodes with_indexes bytes.now result }
+    ensures spelled { IfOk result (λ snapshot. IsSpelled with_indexes bytes.now snapshot) }
 {
     match read_fields(alloc, with_indexes, bytes) {
         Ok((fields, rest)) => {
