@@ -4,7 +4,7 @@ use Rattle.std.specs.Prelude.{map}
 use Rattle.std.specs.List.{AllByRecursion}
 use Rattle.std.specs.Ordering.{nat_cmp}
 use Rattle.std.proofs.Math.Path.{fun_ext}
-use Rattle.std.proofs.lemmas.List.{append-nil, nil_from_length}
+use Rattle.std.proofs.lemmas.List.{append-nil}
 use Rattle.room_base.specs.Ordered.{Ascends}
 use Rattle.room_base.specs.declared.numbers.Moment.{Moment}
 use Rattle.room_base.specs.declared.numbers.Ssid.{Ssid}
@@ -136,10 +136,3 @@ is-spelled indexed bytes snapshot fits is =
       };
       kept = same ∙ kept-same indexed fields found.1 ∙ ap (kept_in indexed) (sym same);
     }
-
--- the same of fields behind which nothing is left
-pub spelled-fields : (indexed : Bool) (bytes : List ℕ) (fields : SnapshotFields) (rest : List ℕ) (snapshot : Snapshot) → AreBytes bytes → snapshot_at indexed bytes ≡ Ok (fields, rest) → length rest ≡ 0 → AreMade fields snapshot
-    → IsSpelled indexed bytes snapshot
-spelled-fields indexed bytes fields rest snapshot fits read none made =
-    let nothing : rest ≡ [] = nil_from_length rest none in
-    is-spelled indexed bytes snapshot fits (record { fields = fields; read = read ∙ ap (λ (t : List ℕ). Ok (fields, t)) nothing; made = made })
