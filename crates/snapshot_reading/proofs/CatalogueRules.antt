@@ -4,7 +4,7 @@ use Rattle.std.specs.Prelude.{map}
 use Rattle.std.specs.List.{AllByRecursion}
 use Rattle.std.specs.Ordering.{nat_cmp}
 use Rattle.std.proofs.Math.Path.{fun_ext}
-use Rattle.std.proofs.lemmas.List.{append-nil, length-map}
+use Rattle.std.proofs.lemmas.List.{append-nil}
 use Rattle.room_base.specs.Ordered.{Ascends}
 use Rattle.room_base.specs.declared.numbers.Moment.{Moment}
 use Rattle.room_base.specs.declared.numbers.Ssid.{Ssid}
@@ -81,8 +81,7 @@ fields-allowed indexed fields are =
     let volumes = volumes-allowed fields.next_volid.0 fields.volumes are.volumes in
     let records = records-allowed fields.next_ssid.0 indexed fields.records are.records in
     let indexes = all-as (λ listed. IsIndexIf indexed listed.index) (λ listed. AreEntries listed.index) (λ listed is. index-are indexed listed.index is) fields.records records.indexes in
-    let entries = all-as (λ listed. IsIndexIf indexed listed.index) (λ listed. AllByRecursion FitsEntry listed.index) (λ listed is. index-fits indexed listed.index is) fields.records records.indexes in
-    (
+    let entries = all-as (λ listed. IsIndexIf indexed listed.index) (λ listed. AllByRecursion FitsEntry listed.index) (λ listed is. index-fits indexed listed.index is) fields.records records.indexes in (
       record {
         number = are.number.1;
         last_moment = are.last_moment;

@@ -100,8 +100,7 @@ each-found [] order = tt
 each-found (listed ∷ records) order =
     let Above : ListedRecord → Type 0 = λ one. listed.row.ssid.0 < one.row.ssid.0 in
     let above : AllByRecursion Above records = above-all listed_ssid listed.row.ssid.0 records order in
-    let rest = each-found records (rest-ascends listed_ssid listed.row.ssid.0 records order) in
-    (
+    let rest = each-found records (rest-ascends listed_ssid listed.row.ssid.0 records order) in (
       found-here listed records listed.row.ssid.0 refl,
       all-as (λ one. Above one × FindsIn records one) (FindsIn (listed ∷ records)) (later-found listed records) records (all-both Above (FindsIn records) records above rest),
     )

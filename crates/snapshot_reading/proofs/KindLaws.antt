@@ -70,8 +70,7 @@ chosen-again lists (resources.Group group) behind rest is = ap (λ (part : Part 
 
 kinds-read : (lists : ResourceLists) → Reads (by_kind_at (resource_readers lists)) resource_text (IsResourceIf lists)
 kinds-read lists =
-    by_kind-reads (resource_readers lists) byte_of fields_text (IsResourceIf lists)
-    (
+    by_kind-reads (resource_readers lists) byte_of fields_text (IsResourceIf lists) (
       made-found (policy_at lists.policies) (λ x. resources.Policy x) (IsPolicyIf lists.policies) (policy-reads lists.policies) lists 0x50 (λ x is. is) (λ x. refl),
       (
         made-found (pool_at lists.pools) (λ x. resources.Pool x) (IsPoolIf lists.pools) (pool-reads lists.pools) lists 0x4F (λ x is. is) (λ x. refl),
@@ -81,7 +80,7 @@ kinds-read lists =
             made-found (schedule_at lists.schedules) (λ x. resources.Schedule x) (IsScheduleIf lists.schedules) (schedule-reads lists.schedules) lists 0x53 (λ x is. is) (λ x. refl),
             (
               made-found (group_at lists.schedules lists.clients lists.groups) (λ x. resources.Group x) (IsGroupIf lists.schedules lists.clients lists.groups) (group-reads lists.schedules lists.clients lists.groups) lists 0x47
-              (λ x is. is) (λ x. refl),
+                  (λ x is. is) (λ x. refl),
               tt,
             ),
           ),

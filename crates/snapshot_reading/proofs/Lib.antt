@@ -17,4 +17,4 @@ pub mod MediaRules
 pub mod RecordRules
 pub mod IndexRules
 pub mod CatalogueRules
-pub mod Laws
+pub mod SnapshotLaws

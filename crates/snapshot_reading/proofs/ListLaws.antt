@@ -304,8 +304,7 @@ found-part : (bytes : List ℕ) (part : Part (List Resource)) → Judged many_at
     → Judged lists_at bytes (by_kinds part) (λ lists rest. Took bytes (lists_text lists) rest × AreListsIf lists)
 found-part bytes (Ok x) found =
     let are = gathered-all x.0 found.1.1 in
-    let lists = gathered x.0 in
-    (
+    let lists = gathered x.0 in (
       subst (λ (text : List ℕ). Took bytes text x.1) (ap many_text are.0 ∙ all-text lists) found.0,
       (are.1, subst (λ (n : ℕ). n ≤ max_count) (ap (λ (all : List Resource). length all) are.0 ∙ all-count lists) found.1.0.1),
     )

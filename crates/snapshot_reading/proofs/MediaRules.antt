@@ -148,8 +148,7 @@ behind-apart-again key before (x ∷ xs) from are =
 slot-is : (before : List FilledSlot) (filled : FilledSlot) → IsNextSlot before filled → Rises nat_cmp slot_number IsFilled before filled × IsApart slot_cart before filled
 slot-is before filled is =
     let slot = both-true (is_within 1 32 filled.slot) (is_above slot_number before filled.slot) is.0.1 in
-    let cart = both-true (is_within 1 256 filled.cart.0) (is_free slot_cart before filled.cart.0) is.1.1 in
-    (
+    let cart = both-true (is_within 1 256 filled.cart.0) (is_free slot_cart before filled.cart.0) is.1.1 in (
       (record { slot = within-is 1 32 filled.slot slot.0; cart = within-is 1 256 filled.cart.0 cart.0 }, above-is slot_number (last_item before) filled.slot slot.1),
       free-is slot_cart before filled cart.1,
     )
@@ -171,8 +170,7 @@ pub slots-again : (allowed : Bool) (slots : List FilledSlot) → AreSlots slots 
 slots-again allowed slots are is =
     let Rising = Rises nat_cmp slot_number IsFilled in
     let rising = rising-behind nat_cmp slot_number IsFilled slots are.each are.order in
-    let apart = behind-apart-again slot_cart [] slots tt are.carts in
-    (
+    let apart = behind-apart-again slot_cart [] slots tt are.carts in (
       (slots_count slots are, is),
       behind-as (λ before x. Rising before x × IsApart slot_cart before x) IsNextSlot slot-again [] slots (behind-both Rising (IsApart slot_cart) [] slots rising apart),
     )
@@ -187,8 +185,7 @@ volume-is : (next : ℕ) (before : List VolumeRec) (volume : VolumeRec) → IsNe
     → Rises nat_cmp volid_of (IsFittingVolume next) before volume × IsApart volume_cart before volume
 volume-is next before volume is =
     let volid = next_drawn-is max_number next volid_of before volume.volid.0 is.0.1 in
-    let cart = both-true (is_within 1 256 volume.cart.0) (is_free volume_cart before volume.cart.0) is.1.1 in
-    (
+    let cart = both-true (is_within 1 256 volume.cart.0) (is_free volume_cart before volume.cart.0) is.1.1 in (
       (
         (
           record { volid = volid.0; drawn = volid.1; cart = within-is 1 256 volume.cart.0 cart.0; pool = is.2; capacity = is.3 },
@@ -203,8 +200,7 @@ volume-again : (next : ℕ) (before : List VolumeRec) (volume : VolumeRec) → R
     → IsNextVolume next before volume
 volume-again next before volume is =
     let one = is.0.0.0 in
-    let fits = is.0.0.1 in
-    (
+    let fits = is.0.0.1 in (
       (fits.volid, next_drawn-again max_number next volid_of before volume.volid.0 (one.volid, one.drawn, is.0.1)),
       (omega (arith, one.cart), both _ _ (within-again 1 256 volume.cart.0 one.cart) (free-again volume_cart before volume is.1)),
       one.pool,
@@ -224,8 +220,7 @@ pub volumes-again : (next : ℕ) (volumes : List VolumeRec) → HasVolumes next 
 volumes-again next volumes are fits =
     let Rising = Rises nat_cmp volid_of (IsFittingVolume next) in
     let rising = rising-behind nat_cmp volid_of (IsFittingVolume next) volumes (all-both (IsVolume next) FitsVolume volumes are.each fits) are.order in
-    let apart = behind-apart-again volume_cart [] volumes tt are.carts in
-    (
+    let apart = behind-apart-again volume_cart [] volumes tt are.carts in (
       (omega arith, omega (arith, are.count)),
       behind-as (λ before x. Rising before x × IsApart volume_cart before x) (IsNextVolume next) (volume-again next) [] volumes (behind-both Rising (IsApart volume_cart) [] volumes rising apart),
     )
@@ -299,8 +294,7 @@ copies-allowed state next list are =
 
 pub copies-again : (state : RecordState) (next : ℕ) (list : List SetCopy) → HasCopies state next list → AreCopiesIf state next list
 copies-again state next list are =
-    let rising = rising-behind nat_cmp copy_no (IsFittingCopy next) list (all-both (IsCopy next) FitsCopy list are.each are.fits) are.order in
-    (
+    let rising = rising-behind nat_cmp copy_no (IsFittingCopy next) list (all-both (IsCopy next) FitsCopy list are.each are.fits) are.order in (
       (omega (arith, are.count), behind-as (Rises nat_cmp copy_no (IsFittingCopy next)) (IsNextCopy next) (copy-again next) [] list rising),
       state-again state list are.fit,
     )

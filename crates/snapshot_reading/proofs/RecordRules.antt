@@ -48,8 +48,7 @@ listed-is : (next : ℕ) (indexed : Bool) (before : List ListedRecord) (listed :
 listed-is next indexed before listed is =
     let row = is.row in
     let number = next_drawn-is max_number next listed_ssid before listed.row.ssid.0 is.head.1 in
-    let copies = copies-allowed listed.row.state listed.row.next_copy listed.row.copies row.copies in
-    (
+    let copies = copies-allowed listed.row.state listed.row.next_copy listed.row.copies row.copies in (
       (
         (
           record {
@@ -130,8 +129,7 @@ records-again next indexed records are =
     let fits = all-of-mapped FitsRecord row-of records are.fits in
     let all =
     all-both (λ listed. IsRecord next listed.row × FitsRecord listed.row) (λ listed. IsIndexIf indexed listed.index) records
-    (all-both (λ listed. IsRecord next listed.row) (λ listed. FitsRecord listed.row) records each fits) are.indexes in
-    (
+    (all-both (λ listed. IsRecord next listed.row) (λ listed. FitsRecord listed.row) records each fits) are.indexes in (
       (omega arith, omega (arith, are.rows.count, length-map records row-of)),
       behind-as (Rises nat_cmp listed_ssid Is) (IsNextListed next indexed) (listed-again next indexed) [] records (rising-behind nat_cmp listed_ssid Is records all are.order),
     )

@@ -63,8 +63,7 @@ client-again policies before client is = (is.0.0, is.1, is.0.1.0, is.0.1.1)
 group-is : (schedules : List Schedule) (clients : List Client) (before : List Group) (group : Group) → IsGroupIf schedules clients before group
     → IsNamed group_name (λ x. IsGroup x × HasSchedule schedules clients x) before group
 group-is schedules clients before group is =
-    let members = all-apart IsMember (HasClient clients) group.members is.members.1 in
-    (
+    let members = all-apart IsMember (HasClient clients) group.members is.members.1 in (
       (record { name = is.name; schedule = is.schedule; members = record { count = is.members.0; each = members.0 } }, (is.scheduled, members.1)),
       is.next,
     )
@@ -103,8 +102,8 @@ resources-allowed catalogue are lasting =
     (behind-as (IsClientIf catalogue.policies) (IsNamed client_name (λ x. IsClient x × HasPolicies catalogue.policies x)) (client-is catalogue.policies) [] catalogue.clients kinds.clients) in
     let groups = both-named group_name IsGroup (HasSchedule catalogue.schedules catalogue.clients) catalogue.groups
     (
-      behind-as (IsGroupIf catalogue.schedules catalogue.clients) (IsNamed group_name (λ x. IsGroup x × HasSchedule catalogue.schedules catalogue.clients x)) (group-is catalogue.schedules catalogue.clients) [] catalogue.groups
-      kinds.groups
+    behind-as (IsGroupIf catalogue.schedules catalogue.clients) (IsNamed group_name (λ x. IsGroup x × HasSchedule catalogue.schedules catalogue.clients x)) (group-is catalogue.schedules catalogue.clients) [] catalogue.groups
+    kinds.groups
     ) in
     let there = both-true (is_there pool_name catalogue.pools (codes "Default")) (is_there client_name catalogue.clients (codes "room")) lasting in
     record {
@@ -126,8 +125,7 @@ resources-allowed catalogue are lasting =
 
 pub resources-again : (catalogue : Catalogue) → AreAllowed catalogue → AreListsIf (lists_of catalogue) × (has_lasting (lists_of catalogue) ≡ true)
 resources-again catalogue are =
-    let has = are.resources in
-    (
+    let has = are.resources in (
       (
         record {
           policies = named-again policy_name IsPolicy catalogue.policies has.policies;

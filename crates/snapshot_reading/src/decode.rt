@@ -4,6 +4,8 @@ ghost use Rattle.std.specs.Prelude.{◌≡◌, ◌-◌, [], map, length, IfOk};
 ghost use Rattle.catalog_text.specs.declared.fault.DecodeFault.TheVariants as faults;
 ghost use Rattle.media_db.specs.Rows.{AreVolumes};
 ghost use Rattle.snapshot_text.specs.Decoding.{AreMade, Decodes};
+ghost use Rattle.snapshot_reading.specs.Spelled.{IsSpelled};
+ghost use Rattle.snapshot_reading.specs.Whole.{ReadsWhole};
 ghost use Rattle.snapshot_text.specs.Storing.{AreListed, AreStored, set_of};
 
 use crate::reading::read_fields;
@@ -20,17 +22,29 @@ pub fn read_snapshot(
     bytes: &[u8],
     with_indexes: bool,
 ) -> Result<Snapshot, DecodeFault>
-    ensures { Decodes with_indexes bytes.now result }
+    ensures decodes { Decodes with_indexes bytes.now result }
+    ensures spelled { IfOk result (λ snapshot. IsSpelled with_indexes bytes.now snapshot) }
 {
-    match read_fields(alloc, with_indexes, bytes) {
+    match read_whole(alloc, with_indexes, bytes) {
+        Ok(fields) => match snapshot_of(alloc, fields) {
+            Ok(snapshot) => Ok(snapshot),
+            Err(Memory) => Err(DecodeFault::Memory),
+        },
+        Err(fault) => Err(fault),
+    }
+}
+
+// The fields of a snapshot, behind which no bytes follow.
+fn read_whole(alloc: Global, indexed: bool, bytes: &[u8]) -> Result<SnapshotFields, DecodeFault>
+    ensures read { ReadsWhole indexed bytes.now result }
+    ensures stored { IfOk result AreStored }
+{
+    match read_fields(alloc, indexed, bytes) {
         Ok((fields, rest)) => {
             if !rest.is_empty() {
                 return Err(bad(bytes, rest.len()));
             }
-            match snapshot_of(alloc, fields) {
-                Ok(snapshot) => Ok(snapshot),
-                Err(Memory) => Err(DecodeFault::Memory),
-            }
+            Ok(fields)
         }
         Err(FieldFault::Bad { behind }) => Err(bad(bytes, behind)),
         Err(FieldFault::Memory) => Err(DecodeFault::Memory),

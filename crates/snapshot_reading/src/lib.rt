@@ -7,6 +7,7 @@ mod copies;
 mod decode;
 mod heads;
 mod item;
+mod laws;
 mod lists;
 mod names;
 mod reading;
@@ -16,6 +17,7 @@ mod slots;
 mod volumes;
 
 pub use decode::read_snapshot;
+pub use laws::{bytes_are_a_snapshot_or_bad, one_spelling, written_snapshots_are_read};
 
 #[cfg(test)]
 mod test_texts;

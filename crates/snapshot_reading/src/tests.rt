@@ -1,8 +1,11 @@
+ghost use Rattle.std.specs.Prelude.{◌≡◌};
+ghost use Rattle.snapshot_text.specs.Snapshots.{catalogue_of, catalogue_read};
+
 use super::*;
 use crate::test_texts::*;
 use catalog_text::DecodeFault;
 use room_base::{Memory, Ssid};
-use snapshot_text::Snapshot;
+use snapshot_text::{Snapshot, SnapshotParts, snapshot};
 use std::alloc::Global;
 use std::test::*;
 
@@ -35,6 +38,45 @@ fn snapshots(rt: HostRuntime) -> Result<(), Fail> {
     assert!(rt; is_read(alloc, &INDEXED, true, (2, 3, 2)));
     assert!(rt; is_read(alloc, &PLAIN, false, (2, 0, 2)));
     assert!(rt; is_read(alloc, &OPENING, false, (0, 0, 0)));
+    Ok(())
+}
+
+fn parts_of(read: &Snapshot) -> SnapshotParts<'_>
+    ensures { catalogue_of result ≡ catalogue_read read.now }
+{
+    SnapshotParts {
+        number: read.number,
+        last_moment: read.last_moment,
+        next_ssid: read.next_ssid,
+        next_volid: read.next_volid,
+        policies: &read.policies,
+        pools: &read.pools,
+        clients: &read.clients,
+        schedules: &read.schedules,
+        groups: &read.groups,
+        slots: &read.slots,
+        db: &read.db,
+        index: &read.index,
+    }
+}
+
+// What is read is written again, byte by byte.
+fn is_written_back(alloc: Global, bytes: &[u8], indexed: bool) -> bool {
+    match read_snapshot(alloc, bytes, indexed) {
+        Ok(read) => match snapshot(alloc, &parts_of(&read), indexed) {
+            Ok(text) => text.as_slice() == bytes,
+            Err(Memory) => false,
+        },
+        Err(_) => false,
+    }
+}
+
+#[test]
+fn written_back(rt: HostRuntime) -> Result<(), Fail> {
+    let alloc = rt.alloc();
+    assert!(rt; is_written_back(alloc, &INDEXED, true));
+    assert!(rt; is_written_back(alloc, &PLAIN, false));
+    assert!(rt; is_written_back(alloc, &OPENING, false));
     Ok(())
 }
 

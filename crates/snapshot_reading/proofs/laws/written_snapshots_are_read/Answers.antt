@@ -1,0 +1,5 @@
+use Rattle.snapshot_reading.proofs.SnapshotLaws.{read-back}
+use Rattle.snapshot_reading.proofs.laws.written_snapshots_are_read.Goals as goal
+
+pub returns : goal.returns
+returns c = read-back

@@ -1,0 +1,43 @@
+//! Laws of snapshots as bytes: each function has an empty body, and its contract is the law.
+
+ghost use Rattle.std.specs.Prelude.{◌≡◌, ◌⊎◌, ℕ, Bool, List, Result, Ok, Err};
+ghost use Rattle.save_stream.specs.Standing.{AreBytes};
+ghost use Rattle.catalog_change.specs.Catalogues.{Catalogue, IsCatalogue};
+ghost use Rattle.catalog_text.specs.declared.fault.DecodeFault.{DecodeFault};
+ghost use Rattle.catalog_text.specs.declared.fault.DecodeFault.TheVariants as faults;
+ghost use Rattle.catalog_text.specs.Decoding.{HasBad};
+ghost use Rattle.snapshot_text.specs.declared.parts.Snapshot.{Snapshot};
+ghost use Rattle.snapshot_text.specs.Decoding.{Decodes};
+ghost use Rattle.snapshot_text.specs.Snapshots.{catalogue_read, snapshot_at, snapshot_text};
+ghost use Rattle.snapshot_reading.specs.Fits.{FitsCatalogue};
+ghost use Rattle.snapshot_reading.specs.Spelled.{IsReadBack, IsText};
+
+/// The spelling of an allowed catalogue, with its indexes or without, is read to that catalogue,
+/// unless memory runs out.
+pub fn written_snapshots_are_read()
+    ensures { (indexed : Bool) (catalogue : Catalogue) (answer : Result Snapshot DecodeFault)
+        → IsCatalogue catalogue → FitsCatalogue catalogue
+        → Decodes indexed (snapshot_text indexed catalogue) answer
+        → IsReadBack indexed catalogue answer }
+{}
+
+/// Texts that are read to one catalogue are one.
+pub fn one_spelling()
+    ensures { (indexed : Bool) (bytes other : List ℕ) (snapshot copy : Snapshot)
+        → AreBytes bytes → AreBytes other
+        → Decodes indexed bytes (Ok snapshot) → Decodes indexed other (Ok copy)
+        → catalogue_read snapshot ≡ catalogue_read copy → bytes ≡ other }
+{}
+
+/// Bytes are the text of an allowed catalogue, or have a first field that isn't allowed, and never
+/// both. A fault is at the place of that field.
+pub fn bytes_are_a_snapshot_or_bad()
+    ensures each { (indexed : Bool) (bytes : List ℕ) → AreBytes bytes
+        → ((catalogue : Catalogue) × IsText indexed bytes catalogue)
+        ⊎ ((place : ℕ) × HasBad (snapshot_at indexed) bytes place) }
+    ensures either { (indexed : Bool) (bytes : List ℕ) (place : ℕ) (catalogue : Catalogue)
+        → IsText indexed bytes catalogue → ¬ (HasBad (snapshot_at indexed) bytes place) }
+    ensures fault { (indexed : Bool) (bytes : List ℕ) (place : ℕ) → AreBytes bytes
+        → Decodes indexed bytes (Err (faults.Bad place))
+        → HasBad (snapshot_at indexed) bytes place }
+{}
