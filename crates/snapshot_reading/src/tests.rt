@@ -1,5 +1,5 @@
 ghost use Rattle.std.specs.Prelude.{◌≡◌};
-ghost use Rattle.snapshot_text.specs.Snapshots.{catalogue_of, catalogue_read};
+ghost use Rattle.snapshot_text.specs.Snapshots.{catalogue_lent, catalogue_read};
 
 use super::*;
 use crate::test_texts::*;
@@ -42,7 +42,7 @@ fn snapshots(rt: HostRuntime) -> Result<(), Fail> {
 }
 
 fn parts_of(read: &Snapshot) -> SnapshotParts<'_>
-    ensures { catalogue_of result ≡ catalogue_read read.now }
+    ensures { catalogue_lent result ≡ catalogue_read read.now }
 {
     SnapshotParts {
         number: read.number,
