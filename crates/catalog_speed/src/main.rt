@@ -3,8 +3,13 @@
 //! a script runs and times.
 #![tactic(auto)]
 
+ghost use Rattle.std.specs.Prelude.{◌≤◌};
+ghost use Rattle.room_base.specs.Numbers.{max_moment};
+ghost use Rattle.catalog_change.specs.Changes.{IsChange};
+
+use catalog_change::Change;
 use catalog_text::{decode_change, encode_change};
-use room_base::Name;
+use room_base::{Moment, Name};
 use room_catalog::Catalogue;
 use room_disk::{FolderStore, Store};
 use std::alloc::Global;
@@ -57,8 +62,15 @@ fn decode(alloc: Global, text: &[u8], times: u32) -> Option<()> {
 
 fn encode(alloc: Global, text: &[u8], times: u32) -> Option<()> {
     let (moment, change) = decode_change(alloc, text).ok()?;
+    encode_each(alloc, moment, &change, times)
+}
+
+fn encode_each(alloc: Global, moment: Moment, change: &Change, times: u32) -> Option<()>
+    requires moment { moment.0 ≤ max_moment }
+    requires allowed { IsChange change.now }
+{
     for _ in 0..times {
-        encode_change(alloc, moment, &change).ok()?;
+        encode_change(alloc, moment, change).ok()?;
     }
     Some(())
 }

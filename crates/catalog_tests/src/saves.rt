@@ -1,6 +1,6 @@
 //! Save sets, their copies, and the labels that end them.
 
-ghost use Rattle.std.specs.Prelude.{IfOk};
+ghost use Rattle.std.specs.Prelude.{◌≡◌, length, IfOk};
 ghost use Rattle.catalog_change.specs.Changes.{AreEntries, AreSections, IsChange};
 
 use crate::stepping::{short, step};
@@ -81,7 +81,8 @@ pub(crate) fn sections_on(alloc: Global, volid: u64) -> Result<Items<Section>, M
 
 /// An index of one file.
 pub(crate) fn index_of(alloc: Global, path: &str) -> Result<Items<IndexEntry>, Memory>
-    ensures { IfOk result AreEntries }
+    ensures entries { IfOk result AreEntries }
+    ensures one { IfOk result (λ index. length index ≡ 1) }
 {
     let path = match Name::path(alloc, path.as_bytes()) {
         Ok(path) => path,

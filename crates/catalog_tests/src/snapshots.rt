@@ -1,5 +1,8 @@
 //! Snapshots of a catalogue, written and read back, and parts that wait.
 
+ghost use Rattle.std.specs.Prelude.{IfOk};
+ghost use Rattle.catalog_change.specs.Changes.{IsChange};
+
 use crate::saves::{begin, index_of, saved, seen_of};
 use crate::stepping::step;
 use catalog_text::DecodeFault;
@@ -65,10 +68,17 @@ fn a_snapshot_is_bad_where_it_ends(rt: HostRuntime) -> Result<(), Fail> {
     Ok(())
 }
 
-fn wait(alloc: Global, catalogue: &mut Catalogue) -> Result<bool, Memory> {
+// Part 0 of the index of set 2.
+fn first_part(alloc: Global) -> Result<Change, Memory>
+    ensures { IfOk result IsChange }
+{
     let index = index_of(alloc, "/home/a")?;
     let (ssid, part) = (Ssid(2), 0);
-    step(catalogue, Change::IndexPart { ssid, part, index })
+    Ok(Change::IndexPart { ssid, part, index })
+}
+
+fn wait(alloc: Global, catalogue: &mut Catalogue) -> Result<bool, Memory> {
+    step(catalogue, first_part(alloc)?)
 }
 
 #[test]
