@@ -1,11 +1,9 @@
 -- What is spelled is read back, in its one spelling, and what is not spelled has a first fault.
-use Rattle.std.proofs.Common.{◌≡◌, ℕ, ◌-◌, ◌≤◌, ◌<◌, ◌^◌, Bool, true, false, List, [], ◌∷◌, ◌++◌, length, Option, None, Result, Ok, Err, refl, sym, ap, subst, ◌∙◌, inl, inr, arith}
+use Rattle.std.proofs.Common.{◌≡◌, ℕ, ◌-◌, Bool, true, false, List, [], ◌∷◌, length, Result, Ok, Err, refl, sym, ap, subst, ◌∙◌, inl, inr, arith}
 use Rattle.std.specs.Prelude.{◌⊎◌, map}
 use Rattle.std.specs.List.{AllByRecursion}
-use Rattle.std.specs.Ordering.{nat_cmp}
 use Rattle.std.proofs.Math.Path.{fun_ext}
 use Rattle.std.proofs.lemmas.List.{append-nil}
-use Rattle.room_base.specs.Ordered.{Ascends}
 use Rattle.media_db.specs.declared.records.Record.{Record}
 use Rattle.save_stream.specs.Standing.{AreBytes}
 use Rattle.save_stream.specs.declared.entry.IndexEntry.{IndexEntry}
@@ -19,7 +17,7 @@ use Rattle.catalog_text.specs.Entries.{FitsEntry}
 use Rattle.catalog_text.proofs.Decodes.{ends-bad, spelled-not-bad, stops-bad}
 use Rattle.snapshot_text.specs.declared.fields.SnapshotFields.{SnapshotFields}
 use Rattle.snapshot_text.specs.declared.parts.Snapshot.{Snapshot}
-use Rattle.snapshot_text.specs.Decoding.{Decodes, IsReadTo, StopsAtPlace}
+use Rattle.snapshot_text.specs.Decoding.{Decodes, StopsAtPlace}
 use Rattle.snapshot_text.specs.Records.{listed_ssid}
 use Rattle.snapshot_text.specs.Snapshots.{catalogue_read, lists_of, snapshot_at, snapshot_text}
 use Rattle.snapshot_reading.specs.Fits.{FitsCatalogue, FitsRecord}
@@ -33,7 +31,6 @@ use Rattle.snapshot_reading.proofs.MediaRules.{slots-again, volumes-again}
 use Rattle.snapshot_reading.proofs.RecordLaws.{IsIndexIf}
 use Rattle.snapshot_reading.proofs.RecordRules.{HasListed, ascends-mapped, records-again}
 use Rattle.snapshot_reading.proofs.ResourceRules.{resources-again}
-use Rattle.snapshot_reading.proofs.Storing.{row-of}
 
 -- ---- the fields of a catalogue
 
