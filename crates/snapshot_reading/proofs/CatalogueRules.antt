@@ -1,46 +1,30 @@
 -- The catalogues that are read are those that are allowed, and those that are allowed are read.
-use Rattle.std.proofs.Common.{◌≡◌, ℕ, ◌-◌, ◌≤◌, ◌<◌, ◌^◌, Bool, true, false, List, [], ◌∷◌, ◌++◌, length, Option, None, Result, Ok, Err, refl, sym, ap, subst, ◌∙◌, append_assoc, inl, inr, arith}
+use Rattle.std.proofs.Common.{◌≡◌, ℕ, Bool, true, false, List, [], ◌++◌, refl, sym, ap, subst, ◌∙◌, arith}
 use Rattle.std.specs.Prelude.{map}
 use Rattle.std.specs.List.{AllByRecursion}
-use Rattle.std.specs.Ordering.{nat_cmp}
 use Rattle.std.proofs.Math.Path.{fun_ext}
 use Rattle.std.proofs.lemmas.List.{append-nil}
-use Rattle.room_base.specs.Ordered.{Ascends}
-use Rattle.room_base.specs.declared.numbers.Moment.{Moment}
-use Rattle.room_base.specs.declared.numbers.Ssid.{Ssid}
-use Rattle.room_base.specs.declared.numbers.Volid.{Volid}
-use Rattle.client_index.specs.Sets.{entries_or_none}
-use Rattle.client_index.specs.declared.index.SetIndex.{SetIndex}
-use Rattle.media_db.specs.Rows.{find_record, ssid_of}
-use Rattle.media_db.specs.declared.records.Record.{Record}
 use Rattle.save_stream.specs.Standing.{AreBytes}
 use Rattle.save_stream.specs.declared.entry.IndexEntry.{IndexEntry}
-use Rattle.catalog_change.specs.Catalogues.{Catalogue, HasIndexes, HasRecords, IsCatalogue}
+use Rattle.catalog_change.specs.Catalogues.{Catalogue, IsCatalogue}
 use Rattle.catalog_change.specs.Changes.{AreEntries}
-use Rattle.catalog_text.specs.Reading.{Part}
-use Rattle.catalog_text.specs.Spelled.{Took}
 use Rattle.catalog_text.specs.Entries.{FitsEntry}
-use Rattle.snapshot_text.specs.declared.fields.ListedRecord.{ListedRecord}
-use Rattle.snapshot_text.specs.declared.fields.ResourceLists.{ResourceLists}
 use Rattle.snapshot_text.specs.declared.fields.SnapshotFields.{SnapshotFields}
 use Rattle.snapshot_text.specs.declared.parts.Snapshot.{Snapshot}
 use Rattle.snapshot_text.specs.Decoding.{AreMade, IsReadTo}
-use Rattle.snapshot_text.specs.Records.{listed_ssid, records_text}
 use Rattle.snapshot_text.specs.Resources.{has_lasting, lists_text}
 use Rattle.snapshot_text.specs.Media.{slots_text, volumes_text}
-use Rattle.snapshot_text.specs.Snapshots.{catalogue_read, front_text, lists_of, snapshot_at, snapshot_text}
-use Rattle.snapshot_text.specs.Storing.{set_of}
-use Rattle.snapshot_reading.specs.Fits.{FitsCatalogue, FitsRecord}
-use Rattle.snapshot_reading.specs.Spelled.{IsSpelled, IsText, kept_in}
-use Rattle.snapshot_reading.proofs.Each.{all-as, all-mapped}
+use Rattle.snapshot_text.specs.Snapshots.{catalogue_read, front_text, snapshot_at, snapshot_text}
+use Rattle.snapshot_reading.specs.Fits.{FitsCatalogue}
+use Rattle.snapshot_reading.specs.Spelled.{IsSpelled, kept_in}
+use Rattle.snapshot_reading.proofs.Each.{all-as}
 use Rattle.snapshot_reading.proofs.FieldLaws.{AreFieldsIf, fields_text, fields-read}
 use Rattle.snapshot_reading.proofs.Found.{taken}
-use Rattle.snapshot_reading.proofs.IndexRules.{index_in, index-again, index-holds, index-none, kept_index, listed_as, rows-again, rows-same}
-use Rattle.snapshot_reading.proofs.ListLaws.{AreListsIf}
-use Rattle.snapshot_reading.proofs.MediaRules.{slots-allowed, slots-again, volumes-allowed, volumes-again}
+use Rattle.snapshot_reading.proofs.IndexRules.{index_in, index-holds, index-none, rows-same}
+use Rattle.snapshot_reading.proofs.MediaRules.{slots-allowed, volumes-allowed}
 use Rattle.snapshot_reading.proofs.RecordLaws.{IsIndexIf}
-use Rattle.snapshot_reading.proofs.RecordRules.{HasListed, ascends-mapped, records-allowed, records-again}
-use Rattle.snapshot_reading.proofs.ResourceRules.{AreAllowed, resources-allowed, resources-again}
+use Rattle.snapshot_reading.proofs.RecordRules.{records-allowed}
+use Rattle.snapshot_reading.proofs.ResourceRules.{resources-allowed}
 use Rattle.snapshot_reading.proofs.Storing.{row-of}
 
 -- the catalogue of fields

@@ -1,8 +1,8 @@
 -- Snapshots: what is read is spelled so and allowed, and what is allowed is read.
-use Rattle.std.proofs.Common.{◌≡◌, ℕ, ◌≤◌, ◌<◌, Bool, List, ◌++◌, Ok, refl, arith}
+use Rattle.std.proofs.Common.{ℕ, ◌≤◌, Bool, List, ◌++◌, refl, arith}
 use Rattle.room_base.specs.Numbers.{max_moment}
 use Rattle.catalog_change.specs.Catalogues.{max_number}
-use Rattle.catalog_text.specs.Spelled.{Took, Reads}
+use Rattle.catalog_text.specs.Spelled.{Reads}
 use Rattle.catalog_text.specs.Fields.{byte_text, number_bytes}
 use Rattle.catalog_text.proofs.Steps.{start, begin, took, after, then-found}
 use Rattle.catalog_text.proofs.Fields.{u64-within, moment-reads}

@@ -11,7 +11,7 @@ use Rattle.room_base.proofs.OrderedNumbers.{lesser_number, other_number, same_nu
 use Rattle.room_base.specs.Ordered.{Ascends, AscendsFrom, find_by}
 use Rattle.client_index.specs.Sets.{entries_or_none, number_of}
 use Rattle.client_index.specs.declared.index.SetIndex.{SetIndex}
-use Rattle.media_db.specs.Rows.{find_record, ssid_of}
+use Rattle.media_db.specs.Rows.{find_record}
 use Rattle.media_db.specs.declared.records.Record.{Record}
 use Rattle.save_stream.specs.declared.entry.IndexEntry.{IndexEntry}
 use Rattle.catalog_text.specs.Fields.{number_bytes}

@@ -1,13 +1,12 @@
 -- One resource behind others: what is read is spelled so and allowed, and what is allowed is read.
-use Rattle.std.proofs.Common.{◌≡◌, ℕ, ◌≤◌, ◌<◌, Bool, true, false, cond, eqb, List, [], ◌∷◌, ◌++◌, length, Ok, Err, refl, sym, ap, subst, ◌∙◌}
-use Rattle.std.specs.List.{AllByRecursion}
+use Rattle.std.proofs.Common.{◌≡◌, ℕ, Bool, true, false, cond, eqb, List, [], ◌∷◌, ◌++◌, length, Ok, Err, refl, ap, subst, ◌∙◌}
 use Rattle.save_stream.specs.Standing.{AreBytes}
 use Rattle.catalog_change.specs.declared.resource.Resource.{Resource}
 use Rattle.catalog_change.specs.declared.resource.Resource.TheVariants as resources
 use Rattle.catalog_change.specs.Resources.{kind_of}
 use Rattle.catalog_text.specs.Reading.{Part, ◌>>=◌, checked}
-use Rattle.catalog_text.specs.Spelled.{Took, Judged, StopsIn, Reads}
-use Rattle.catalog_text.specs.Fields.{byte_text, byte_at}
+use Rattle.catalog_text.specs.Spelled.{Took, Judged, Reads}
+use Rattle.catalog_text.specs.Fields.{byte_at}
 use Rattle.catalog_text.specs.Kinds.{Readers, chosen, by_kind_at}
 use Rattle.catalog_text.specs.Resources.{resource_byte, resource_text, fields_text}
 use Rattle.catalog_text.proofs.Steps.{begin, took, then-found}

@@ -1,17 +1,15 @@
 -- All resources in one list: what is read is spelled so and allowed, and what is allowed is read.
-use Rattle.std.proofs.Common.{◌≡◌, ℕ, zero, suc, ◌+◌, ◌≤◌, ◌<◌, ◌^◌, Bool, true, false, eqb, List, [], ◌∷◌, ◌++◌, length, Ok, Err, refl, sym, ap, subst, ◌∙◌, append_assoc, arith}
+use Rattle.std.proofs.Common.{◌≡◌, ℕ, zero, suc, ◌≤◌, true, List, [], ◌∷◌, ◌++◌, length, Ok, Err, refl, sym, ap, subst, ◌∙◌, append_assoc, arith}
 use Rattle.std.specs.Prelude.{◌&&◌, map}
-use Rattle.std.specs.List.{flat_map}
 use Rattle.std.proofs.lemmas.Bool.{eqb-true}
 use Rattle.std.proofs.lemmas.Grind.{flat_map-append}
 use Rattle.std.proofs.lemmas.List.{append-nil, length-append, length-map, map-append, nil_from_length}
 use Rattle.std.proofs.lemmas.List.Folds.{flat_map-map}
-use Rattle.save_stream.specs.Standing.{AreBytes}
 use Rattle.save_stream.proofs.Sound.{both-true}
 use Rattle.catalog_change.specs.declared.resource.Resource.{Resource}
 use Rattle.catalog_change.specs.declared.resource.Resource.TheVariants as resources
 use Rattle.catalog_text.specs.Reading.{Part, ◌>>=◌}
-use Rattle.catalog_text.specs.Spelled.{Took, Judged, StopsIn, Reads}
+use Rattle.catalog_text.specs.Spelled.{Took, Judged, Reads}
 use Rattle.catalog_text.specs.Fields.{number_bytes, number_within_at}
 use Rattle.catalog_text.specs.Lists.{AllBehind, items_at, list_at, list_text}
 use Rattle.catalog_text.specs.Resources.{resource_text}
@@ -19,7 +17,7 @@ use Rattle.catalog_text.specs.Changes.{max_count}
 use Rattle.catalog_text.proofs.Fields.{u32-within}
 use Rattle.catalog_text.proofs.Lists.{list-reads, IsListOf}
 use Rattle.snapshot_text.specs.declared.fields.ResourceLists.{ResourceLists}
-use Rattle.snapshot_text.specs.Resources.{can_follow, count_of, is_none, lists_at, lists_text, more_at, next_at, no_resources}
+use Rattle.snapshot_text.specs.Resources.{can_follow, count_of, is_none, lists_at, lists_text, more_at, no_resources}
 use Rattle.snapshot_reading.proofs.KindLaws.{with_resource, IsNextResource, byte_of, resource_at, resource-reads, put_behind, next-same}
 use Rattle.snapshot_reading.proofs.Ordered.{behind-push}
 use Rattle.snapshot_reading.proofs.ResourceLaws.{IsPolicyIf, IsPoolIf, IsClientIf, IsScheduleIf, IsGroupIf}

@@ -1,5 +1,5 @@
 -- Slots, volumes and copies: what is read is spelled so and allowed, and what is allowed is read.
-use Rattle.std.proofs.Common.{◌≡◌, ℕ, ◌≤◌, ◌<◌, ◌^◌, Bool, true, false, List, [], ◌∷◌, ◌++◌, length, Option, Some, None, Ok, Err, refl, sym, ap, subst, ◌∙◌, arith}
+use Rattle.std.proofs.Common.{◌≡◌, ℕ, ◌≤◌, ◌<◌, ◌^◌, Bool, true, List, [], Some, Err, refl, sym, subst, arith}
 use Rattle.std.proofs.lemmas.List.{nil_from_length}
 use Rattle.media_db.specs.Edits.{copy_no}
 use Rattle.media_db.specs.Rows.{volid_of}
@@ -12,10 +12,10 @@ use Rattle.media_db.specs.declared.volumes.VolumeRec.{VolumeRec}
 use Rattle.save_stream.specs.Spelling.{IsNameTo}
 use Rattle.catalog_change.specs.declared.slot.FilledSlot.{FilledSlot}
 use Rattle.catalog_change.specs.Catalogues.{max_copy, max_number, slot_cart, volume_cart}
-use Rattle.catalog_text.specs.Reading.{Part, checked}
-use Rattle.catalog_text.specs.Spelled.{Took, Judged, Reads}
+use Rattle.catalog_text.specs.Reading.{checked}
+use Rattle.catalog_text.specs.Spelled.{Reads}
 use Rattle.catalog_text.specs.Fields.{byte_text, byte_at, number_bytes, number_at, coded, code_at}
-use Rattle.catalog_text.specs.Lists.{AllBehind, list_at}
+use Rattle.catalog_text.specs.Lists.{list_at}
 use Rattle.catalog_text.specs.Sections.{section_at, section_text, sections_text}
 use Rattle.catalog_text.specs.Changes.{max_count}
 use Rattle.catalog_text.proofs.Steps.{start, begin, took, after, then-found, checked-reads, reads-as}

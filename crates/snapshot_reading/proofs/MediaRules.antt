@@ -1,13 +1,13 @@
 -- The slots, volumes and copies that reading allows are those that a catalogue may have.
-use Rattle.std.proofs.Common.{◌≡◌, ◌≢◌, ℕ, ◌≤◌, ◌<◌, ◌^◌, Bool, true, false, eqb, nat_lt, nat_le, List, [], ◌∷◌, ◌++◌, length, refl, sym, ap, subst, ◌∙◌, eq-eqb, inl, inr, arith}
+use Rattle.std.proofs.Common.{◌≡◌, ◌≢◌, ℕ, ◌≤◌, Bool, true, false, eqb, nat_lt, nat_le, List, [], ◌∷◌, ◌++◌, length, refl, sym, ap, subst, eq-eqb, inl, inr, arith}
 use Rattle.std.specs.Prelude.{◌&&◌, ◌||◌, ◌⊎◌, not, IfSome}
 use Rattle.std.specs.List.{AllByRecursion, list_any}
 use Rattle.std.specs.Ordering.{nat_cmp}
 use Rattle.std.specs.declared.cmp.Ordering.TheVariants.{Less}
 use Rattle.std.proofs.lemmas.Bool.{eqb-true, eqb-false, leb-true, le-leb, lt-ltb, ltb-true}
 use Rattle.room_base.specs.Ordered.{Ascends}
-use Rattle.media_db.specs.Edits.{begun_copy, copy_no, has_done, is_done}
-use Rattle.media_db.specs.Rows.{AreVolumes, volid_of}
+use Rattle.media_db.specs.Edits.{begun_copy, copy_no, is_done}
+use Rattle.media_db.specs.Rows.{volid_of}
 use Rattle.media_db.specs.declared.copies.CopyState.{CopyState}
 use Rattle.media_db.specs.declared.copies.CopyState.TheVariants as copies
 use Rattle.media_db.specs.declared.copies.Section.{Section}
@@ -21,14 +21,13 @@ use Rattle.catalog_change.specs.Catalogues.{AreApart, AreSlots, FitState, HasVol
 use Rattle.catalog_change.specs.Catalogues as catalogues
 use Rattle.catalog_change.specs.declared.slot.FilledSlot.{FilledSlot}
 use Rattle.catalog_text.specs.Fields.{is_within}
-use Rattle.catalog_text.specs.Lists.{AllBehind, IsAbove, last_item, by_item}
+use Rattle.catalog_text.specs.Lists.{AllBehind, last_item}
 use Rattle.catalog_text.specs.Sections.{FitsSection}
-use Rattle.catalog_text.specs.Changes.{max_count}
 use Rattle.catalog_text.proofs.Behind.{Rises, rising-is, rising-behind, above-is, above-again}
-use Rattle.snapshot_text.specs.Media.{fits_state, is_above, is_drawn, is_first_begun, is_free, is_free_cart, is_next_drawn, is_next_slot}
+use Rattle.snapshot_text.specs.Media.{fits_state, is_above, is_drawn, is_first_begun, is_free, is_next_drawn}
 use Rattle.snapshot_text.proofs.CanWrite.{slots_count}
 use Rattle.snapshot_reading.specs.Fits.{FitsCopy, FitsVolume}
-use Rattle.snapshot_reading.proofs.Each.{all-append, all-apart, all-as, all-both, all-with, behind-apart, behind-as, behind-both}
+use Rattle.snapshot_reading.proofs.Each.{all-append, all-apart, all-both, all-with, behind-apart, behind-as, behind-both}
 use Rattle.snapshot_reading.proofs.MediaLaws.{AreCopiesIf, AreSectionsOf, AreSlotsIf, AreVolumesIf, IsNextCopy, IsNextSlot, IsNextVolume}
 
 -- ---- what tests say

@@ -1,5 +1,5 @@
 -- Reading resources one after the other, as a loop does.
-use Rattle.std.proofs.Common.{◌≡◌, ℕ, zero, suc, ◌-◌, ◌+◌, ◌≤◌, ◌<◌, List, Result, Ok, Err, refl, sym, ◌∙◌, arith}
+use Rattle.std.proofs.Common.{◌≡◌, ℕ, suc, ◌-◌, ◌+◌, ◌≤◌, ◌<◌, List, Ok, Err, refl, sym, ◌∙◌, arith}
 use Rattle.catalog_text.specs.declared.fault.FieldFault.{FieldFault}
 use Rattle.catalog_text.specs.declared.fault.FieldFault.TheVariants as faults
 use Rattle.catalog_text.specs.Reading.{Part, ◌>>=◌, Fails}

@@ -1,12 +1,10 @@
 -- Names that are judged: what is read is spelled so and allowed, and what is allowed is read.
-use Rattle.std.proofs.Common.{◌≡◌, ℕ, ◌-◌, ◌≤◌, ◌<◌, Bool, true, false, cond, List, [], ◌∷◌, ◌++◌, length, Ok, Err, refl, ap, ◌∙◌, arith}
-use Rattle.std.proofs.lemmas.List.{length-append}
+use Rattle.std.proofs.Common.{◌≡◌, ℕ, ◌-◌, ◌≤◌, Bool, true, false, cond, List, [], ◌∷◌, ◌++◌, length, Ok, Err, refl, ap, ◌∙◌, arith}
 use Rattle.save_stream.specs.Reading.{is_name}
 use Rattle.save_stream.specs.Spelling.{IsNameTo, short_text}
-use Rattle.save_stream.specs.Standing.{AreBytes}
 use Rattle.catalog_text.specs.Reading.{Part, ◌>>=◌, checked}
 use Rattle.catalog_text.specs.Spelled.{Took, Judged, Reads}
-use Rattle.catalog_text.specs.Fields.{byte_text, bytes_at, byte_within_at, text_at, name_at}
+use Rattle.catalog_text.specs.Fields.{bytes_at, byte_within_at, text_at, name_at}
 use Rattle.catalog_text.proofs.Fields.{byte-within, bytes-empty, name-reads}
 use Rattle.snapshot_text.specs.Names.{name_if_at}
 

@@ -1,5 +1,5 @@
 -- The records that reading allows are those that a catalogue may have.
-use Rattle.std.proofs.Common.{◌≡◌, ℕ, ◌≤◌, ◌<◌, ◌^◌, Bool, true, false, nat_lt, List, [], ◌∷◌, ◌++◌, length, refl, sym, ap, subst, ◌∙◌, arith}
+use Rattle.std.proofs.Common.{◌≡◌, ℕ, Bool, true, List, [], ◌∷◌, length, refl, arith}
 use Rattle.std.specs.Prelude.{map}
 use Rattle.std.specs.List.{AllByRecursion}
 use Rattle.std.specs.Ordering.{nat_cmp}
@@ -12,19 +12,14 @@ use Rattle.media_db.specs.declared.records.Record.{Record}
 use Rattle.media_db.specs.declared.records.RecordState.{RecordState}
 use Rattle.media_db.specs.declared.records.RecordState.TheVariants as states
 use Rattle.save_stream.specs.Spelling.{head_text}
-use Rattle.save_stream.specs.declared.entry.IndexEntry.{IndexEntry}
 use Rattle.catalog_change.specs.Catalogues.{HasRecords, IsLonger, IsRecord, max_number}
-use Rattle.catalog_change.specs.Changes.{AreEntries}
-use Rattle.catalog_text.specs.Entries.{FitsEntry}
-use Rattle.catalog_text.specs.Changes.{max_count}
 use Rattle.catalog_text.proofs.Behind.{Rises, rising-is, rising-behind}
 use Rattle.snapshot_text.specs.declared.fields.ListedRecord.{ListedRecord}
-use Rattle.snapshot_text.specs.Media.{is_next_drawn}
 use Rattle.snapshot_text.specs.Records.{is_longer, listed_ssid}
 use Rattle.snapshot_reading.specs.Fits.{FitsRecord}
-use Rattle.snapshot_reading.proofs.Each.{all-apart, all-as, all-both, all-mapped, all-of-mapped, behind-as}
+use Rattle.snapshot_reading.proofs.Each.{all-apart, all-both, all-mapped, all-of-mapped, behind-as}
 use Rattle.snapshot_reading.proofs.MediaRules.{HasCopies, copies-allowed, copies-again, next_drawn-is, next_drawn-again}
-use Rattle.snapshot_reading.proofs.RecordLaws.{AreRecordsIf, IsIndexIf, IsNextListed, IsRowOf}
+use Rattle.snapshot_reading.proofs.RecordLaws.{AreRecordsIf, IsIndexIf, IsNextListed}
 use Rattle.snapshot_reading.proofs.Storing.{row-of}
 
 -- ---- one record

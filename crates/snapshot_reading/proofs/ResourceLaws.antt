@@ -1,6 +1,6 @@
 -- Resources that are judged beside those before them: what is read is spelled so and allowed, and
 -- what is allowed is read.
-use Rattle.std.proofs.Common.{◌≡◌, ℕ, ◌≤◌, ◌<◌, Bool, true, List, [], ◌∷◌, ◌++◌, length, Ok, refl, arith}
+use Rattle.std.proofs.Common.{◌≡◌, ◌≤◌, true, List, [], length, arith}
 use Rattle.room_rules.specs.declared.group.Group.{Group}
 use Rattle.room_rules.specs.declared.group.Member.{Member}
 use Rattle.room_rules.specs.declared.policy.Policy.{Policy}
@@ -10,7 +10,7 @@ use Rattle.std.specs.List.{AllByRecursion}
 use Rattle.save_stream.specs.Spelling.{IsNameTo}
 use Rattle.catalog_change.specs.declared.resource.Client.{Client}
 use Rattle.catalog_change.specs.declared.resource.Resource.TheVariants as resources
-use Rattle.catalog_change.specs.Resources.{IsListTo, IsMember, IsPolicy, IsPool, IsClient, IsSchedule, IsGroup, client_name, group_name, policy_name, pool_name, schedule_name}
+use Rattle.catalog_change.specs.Resources.{IsMember, IsPolicy, IsPool, IsClient, IsSchedule, client_name, group_name, policy_name, pool_name, schedule_name}
 use Rattle.catalog_text.specs.Spelled.{Reads}
 use Rattle.catalog_text.specs.Resources.{fields_text, member_text, members_text, FitsResource}
 use Rattle.catalog_text.proofs.Steps.{start, begin, took, after, then-found, reads-as}

@@ -1,11 +1,10 @@
 -- The resources that reading allows are those that a catalogue may have.
-use Rattle.std.proofs.Common.{◌≡◌, ℕ, ◌≤◌, ◌<◌, Bool, true, List, [], ◌∷◌, ◌++◌, length, refl, arith}
-use Rattle.std.specs.Prelude.{◌&&◌, codes}
+use Rattle.std.proofs.Common.{◌≡◌, ℕ, true, List, [], arith}
+use Rattle.std.specs.Prelude.{codes}
 use Rattle.std.specs.List.{AllByRecursion}
 use Rattle.std.specs.Ordering.{nat_cmp}
 use Rattle.std.specs.Cmp.Lexicographic.{slice_cmp}
 use Rattle.room_rules.specs.declared.group.Group.{Group}
-use Rattle.room_rules.specs.declared.group.Member.{Member}
 use Rattle.room_rules.specs.declared.policy.Policy.{Policy}
 use Rattle.room_rules.specs.declared.pool.Pool.{Pool}
 use Rattle.room_rules.specs.declared.schedule.Schedule.{Schedule}
@@ -19,12 +18,12 @@ use Rattle.catalog_text.specs.Lists.{AllBehind, last_item}
 use Rattle.catalog_text.specs.Resources.{FitsResource}
 use Rattle.catalog_text.proofs.Behind.{Rises, rising-is, rising-behind}
 use Rattle.snapshot_text.specs.Names.{is_next_name, is_there}
-use Rattle.snapshot_text.specs.Resources.{count_of, has_lasting}
+use Rattle.snapshot_text.specs.Resources.{has_lasting}
 use Rattle.snapshot_text.specs.Snapshots.{lists_of}
-use Rattle.snapshot_reading.proofs.Each.{all-apart, all-as, all-both, behind-as}
-use Rattle.snapshot_reading.proofs.ListLaws.{AreKinds, AreListsIf}
+use Rattle.snapshot_reading.proofs.Each.{all-apart, all-both, behind-as}
+use Rattle.snapshot_reading.proofs.ListLaws.{AreListsIf}
 use Rattle.snapshot_reading.proofs.Ordered.{last-above, last-below}
-use Rattle.snapshot_reading.proofs.ResourceLaws.{IsPolicyIf, IsPoolIf, IsClientIf, IsScheduleIf, IsMemberIf, IsGroupIf}
+use Rattle.snapshot_reading.proofs.ResourceLaws.{IsClientIf, IsGroupIf}
 
 -- ---- in the order of their names
 

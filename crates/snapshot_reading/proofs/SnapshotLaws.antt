@@ -1,11 +1,9 @@
 -- What is spelled is read back, in its one spelling, and what is not spelled has a first fault.
-use Rattle.std.proofs.Common.{◌≡◌, ℕ, ◌-◌, ◌≤◌, ◌<◌, ◌^◌, Bool, true, false, List, [], ◌∷◌, ◌++◌, length, Option, None, Result, Ok, Err, refl, sym, ap, subst, ◌∙◌, inl, inr, arith}
+use Rattle.std.proofs.Common.{◌≡◌, ℕ, ◌-◌, Bool, true, false, List, [], ◌∷◌, ◌++◌, length, Result, Ok, Err, refl, sym, ap, subst, ◌∙◌, inl, inr, arith}
 use Rattle.std.specs.Prelude.{◌⊎◌, map}
 use Rattle.std.specs.List.{AllByRecursion}
-use Rattle.std.specs.Ordering.{nat_cmp}
 use Rattle.std.proofs.Math.Path.{fun_ext}
-use Rattle.std.proofs.lemmas.List.{append-nil}
-use Rattle.room_base.specs.Ordered.{Ascends}
+use Rattle.std.proofs.lemmas.List.{append-nil, length-append}
 use Rattle.media_db.specs.declared.records.Record.{Record}
 use Rattle.save_stream.specs.Standing.{AreBytes}
 use Rattle.save_stream.specs.declared.entry.IndexEntry.{IndexEntry}
@@ -13,13 +11,13 @@ use Rattle.catalog_change.specs.Catalogues.{Catalogue, HasRecords, IsCatalogue}
 use Rattle.catalog_change.specs.Changes.{AreEntries}
 use Rattle.catalog_text.specs.declared.fault.DecodeFault.{DecodeFault}
 use Rattle.catalog_text.specs.declared.fault.DecodeFault.TheVariants as faults
-use Rattle.catalog_text.specs.Decoding.{HasBad}
+use Rattle.catalog_text.specs.Decoding.{EndsAt, HasBad, StopsAt}
 use Rattle.catalog_text.specs.Reading.{Part}
 use Rattle.catalog_text.specs.Entries.{FitsEntry}
 use Rattle.catalog_text.proofs.Decodes.{ends-bad, spelled-not-bad, stops-bad}
 use Rattle.snapshot_text.specs.declared.fields.SnapshotFields.{SnapshotFields}
 use Rattle.snapshot_text.specs.declared.parts.Snapshot.{Snapshot}
-use Rattle.snapshot_text.specs.Decoding.{Decodes, IsReadTo, StopsAtPlace}
+use Rattle.snapshot_text.specs.Decoding.{Decodes, StopsAtPlace}
 use Rattle.snapshot_text.specs.Records.{listed_ssid}
 use Rattle.snapshot_text.specs.Snapshots.{catalogue_read, lists_of, snapshot_at, snapshot_text}
 use Rattle.snapshot_reading.specs.Fits.{FitsCatalogue, FitsRecord}
@@ -33,7 +31,6 @@ use Rattle.snapshot_reading.proofs.MediaRules.{slots-again, volumes-again}
 use Rattle.snapshot_reading.proofs.RecordLaws.{IsIndexIf}
 use Rattle.snapshot_reading.proofs.RecordRules.{HasListed, ascends-mapped, records-again}
 use Rattle.snapshot_reading.proofs.ResourceRules.{resources-again}
-use Rattle.snapshot_reading.proofs.Storing.{row-of}
 
 -- ---- the fields of a catalogue
 
@@ -181,3 +178,29 @@ judged-bytes indexed bytes (Ok (fields, byte ∷ rest)) fits is =
 
 pub text-or-bad : (indexed : Bool) (bytes : List ℕ) → AreBytes bytes → ((catalogue : Catalogue) × IsText indexed bytes catalogue) ⊎ ((place : ℕ) × HasBad (snapshot_at indexed) bytes place)
 text-or-bad indexed bytes fits = judged-bytes indexed bytes (snapshot_at indexed bytes) fits refl
+
+-- ---- there is one answer
+
+-- how many bytes there are from where reading stopped on
+abbrev left_of : Part SnapshotFields → ℕ
+left_of (Ok pair) = length pair.1
+left_of (Err behind) = behind
+
+left-bad : (indexed : Bool) (before bad : List ℕ) → StopsAt (snapshot_at indexed) before bad ⊎ EndsAt (snapshot_at indexed) before bad → left_of (snapshot_at indexed (before ++ bad)) ≡ length bad
+left-bad indexed before bad (inl stops) = ap left_of stops.0
+left-bad indexed before bad (inr ends) = ap left_of ends.1
+
+pub one-place : (indexed : Bool) (bytes : List ℕ) (place other : ℕ) → HasBad (snapshot_at indexed) bytes place → HasBad (snapshot_at indexed) bytes other → place ≡ other
+one-place indexed bytes place other one two =
+    let first = ap (λ (t : List ℕ). left_of (snapshot_at indexed t)) one.parts ∙ left-bad indexed one.before one.bad one.stops in
+    let second = ap (λ (t : List ℕ). left_of (snapshot_at indexed t)) two.parts ∙ left-bad indexed two.before two.bad two.stops in
+    let same : length one.bad ≡ length two.bad = sym first ∙ second in
+    let all : length (one.before ++ one.bad) ≡ length (two.before ++ two.bad) = ap (λ (t : List ℕ). length t) (sym one.parts ∙ two.parts) in
+    omega (arith, same, all, length-append one.before one.bad, length-append two.before two.bad, one.place_is, two.place_is)
+
+pub one-catalogue : (indexed : Bool) (bytes : List ℕ) (catalogue other : Catalogue) → IsText indexed bytes catalogue → IsText indexed bytes other → kept_in indexed catalogue ≡ kept_in indexed other
+one-catalogue indexed bytes catalogue other is also =
+    let first = ap (snapshot_at indexed) is.text ∙ whole-read indexed catalogue is.allowed is.fits in
+    let second = ap (snapshot_at indexed) also.text ∙ whole-read indexed other also.allowed also.fits in
+    let same = same-read (snapshot_at indexed bytes) (fields_of indexed catalogue) (fields_of indexed other) [] [] first second in
+    sym (fields-same indexed catalogue is.allowed) ∙ ap catalogue_in same.0 ∙ fields-same indexed other also.allowed

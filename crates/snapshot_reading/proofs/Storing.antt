@@ -1,5 +1,5 @@
 -- What was read can be put into a database, one behind the other.
-use Rattle.std.proofs.Common.{◌≡◌, ℕ, ◌≤◌, ◌<◌, ◌^◌, Bool, true, false, ◌&&◌, ◌||◌, nat_lt, nat_le, List, [], ◌∷◌, ◌++◌, length, Option, Some, None, refl, sym, ap, subst, ◌∙◌, arith}
+use Rattle.std.proofs.Common.{◌≡◌, ℕ, Bool, true, false, ◌&&◌, List, [], ◌∷◌, ◌++◌, length, refl, sym, ap, subst, ◌∙◌, arith}
 use Rattle.std.specs.Prelude.{IfSome, map, Ok}
 use Rattle.std.specs.List.{AllByRecursion}
 use Rattle.std.specs.Ordering.{nat_cmp, match_ordering}
@@ -15,7 +15,7 @@ use Rattle.save_stream.specs.declared.entry.IndexEntry.{IndexEntry}
 use Rattle.media_db.specs.Rows.{AreVolumes, HasLowerBase, volid_of}
 use Rattle.media_db.specs.declared.volumes.VolumeRec.{VolumeRec}
 use Rattle.catalog_change.specs.Catalogues.{max_number}
-use Rattle.catalog_text.specs.Lists.{AllBehind, last_item, by_item}
+use Rattle.catalog_text.specs.Lists.{last_item}
 use Rattle.catalog_text.proofs.Behind.{Rises, rising-is, above-is}
 use Rattle.snapshot_text.specs.declared.fields.ListedRecord.{ListedRecord}
 use Rattle.snapshot_text.specs.Media.{is_next_drawn, volumes_at}

@@ -3,7 +3,6 @@
 use Rattle.std.specs.Prelude.{◌≡◌, ℕ, Bool, List, [], Result, Ok, Err}
 use Rattle.catalog_text.specs.declared.fault.DecodeFault.{DecodeFault}
 use Rattle.catalog_text.specs.declared.fault.DecodeFault.TheVariants as faults
-use Rattle.catalog_text.specs.Reading.{Part}
 use Rattle.snapshot_text.specs.declared.fields.SnapshotFields.{SnapshotFields}
 use Rattle.snapshot_text.specs.Decoding.{StopsAtPlace}
 use Rattle.snapshot_text.specs.Snapshots.{snapshot_at}

@@ -10,7 +10,7 @@ ghost use Rattle.snapshot_text.specs.declared.parts.Snapshot.{Snapshot};
 ghost use Rattle.snapshot_text.specs.Decoding.{Decodes};
 ghost use Rattle.snapshot_text.specs.Snapshots.{catalogue_read, snapshot_at, snapshot_text};
 ghost use Rattle.snapshot_reading.specs.Fits.{FitsCatalogue};
-ghost use Rattle.snapshot_reading.specs.Spelled.{IsReadBack, IsText};
+ghost use Rattle.snapshot_reading.specs.Spelled.{IsReadBack, IsText, kept_in};
 
 /// The spelling of an allowed catalogue, with its indexes or without, is read to that catalogue,
 /// unless memory runs out.
@@ -21,12 +21,16 @@ pub fn written_snapshots_are_read()
         → IsReadBack indexed catalogue answer }
 {}
 
-/// Texts that are read to one catalogue are one.
+/// Texts that are read to one catalogue are one, and catalogues with one text are one, as far as
+/// the text keeps them.
 pub fn one_spelling()
-    ensures { (indexed : Bool) (bytes other : List ℕ) (snapshot copy : Snapshot)
+    ensures texts { (indexed : Bool) (bytes other : List ℕ) (snapshot copy : Snapshot)
         → AreBytes bytes → AreBytes other
         → Decodes indexed bytes (Ok snapshot) → Decodes indexed other (Ok copy)
         → catalogue_read snapshot ≡ catalogue_read copy → bytes ≡ other }
+    ensures catalogues { (indexed : Bool) (bytes : List ℕ) (catalogue other : Catalogue)
+        → IsText indexed bytes catalogue → IsText indexed bytes other
+        → kept_in indexed catalogue ≡ kept_in indexed other }
 {}
 
 /// Bytes are the text of an allowed catalogue, or have a first field that isn't allowed, and never
@@ -40,4 +44,7 @@ pub fn bytes_are_a_snapshot_or_bad()
     ensures fault { (indexed : Bool) (bytes : List ℕ) (place : ℕ) → AreBytes bytes
         → Decodes indexed bytes (Err (faults.Bad place))
         → HasBad (snapshot_at indexed) bytes place }
+    ensures one { (indexed : Bool) (bytes : List ℕ) (place other : ℕ)
+        → HasBad (snapshot_at indexed) bytes place → HasBad (snapshot_at indexed) bytes other
+        → place ≡ other }
 {}

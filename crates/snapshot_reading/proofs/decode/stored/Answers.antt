@@ -1,8 +1,7 @@
-use Rattle.std.proofs.Common.{◌≡◌, ◌∷◌, [], ◌++◌, List, map, length, refl, sym, ap, subst, ◌∙◌, append_assoc, append-nil, arith}
+use Rattle.std.proofs.Common.{◌≡◌, ◌∷◌, [], ◌++◌, List, map, length, sym, ap, ◌∙◌, append_assoc, arith}
 use Rattle.std.specs.Vec.Iter.{into_iter_items}
 use Rattle.client_index.specs.Sets.{number_of}
 use Rattle.media_db.specs.Rows.{Database, HasLowerBase, ssid_of}
-use Rattle.media_db.specs.declared.records.Record.{Record}
 use Rattle.save_stream.specs.Spelling.{PathsAscend}
 use Rattle.snapshot_text.specs.declared.fields.ListedRecord.{ListedRecord}
 use Rattle.snapshot_text.specs.Storing.{set_of}

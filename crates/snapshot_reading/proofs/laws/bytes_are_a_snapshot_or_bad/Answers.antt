@@ -1,4 +1,4 @@
-use Rattle.snapshot_reading.proofs.SnapshotLaws.{fault-is, not-bad, text-or-bad}
+use Rattle.snapshot_reading.proofs.SnapshotLaws.{fault-is, not-bad, one-place, text-or-bad}
 use Rattle.snapshot_reading.proofs.laws.bytes_are_a_snapshot_or_bad.Goals as goal
 
 pub returns-clause-each : goal.returns-clause-each
@@ -9,3 +9,6 @@ returns-clause-either c = not-bad
 
 pub returns-clause-fault : goal.returns-clause-fault
 returns-clause-fault c = fault-is
+
+pub returns-clause-one : goal.returns-clause-one
+returns-clause-one c = one-place

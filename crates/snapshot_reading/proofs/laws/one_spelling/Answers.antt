@@ -1,5 +1,8 @@
-use Rattle.snapshot_reading.proofs.SnapshotLaws.{one-text}
+use Rattle.snapshot_reading.proofs.SnapshotLaws.{one-catalogue, one-text}
 use Rattle.snapshot_reading.proofs.laws.one_spelling.Goals as goal
 
-pub returns : goal.returns
-returns c = one-text
+pub returns-clause-texts : goal.returns-clause-texts
+returns-clause-texts c = one-text
+
+pub returns-clause-catalogues : goal.returns-clause-catalogues
+returns-clause-catalogues c = one-catalogue
