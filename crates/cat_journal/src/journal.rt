@@ -1,6 +1,6 @@
 //! A journal that stands at its next gate, and the calls that write it.
 
-ghost use Rattle.std.specs.Prelude.{◌≡◌, ◌≤◌, ◌<◌, ◌+◌, ◌-◌, ◌^◌, [], ◌∷◌, ◌++◌, max, length, None};
+ghost use Rattle.std.specs.Prelude.{◌≡◌, ◌==◌, ◌≤◌, ◌<◌, ◌+◌, ◌-◌, ◌^◌, [], ◌∷◌, ◌++◌, max, length, None};
 ghost use Rattle.std.specs.Prelude.{IfOk, IsOk, OnOk, OnErr, MatchOption};
 ghost use Rattle.room_base.specs.Outside.{Told};
 ghost use Rattle.room_disk.specs.Disk.{Leaves};
@@ -81,6 +81,16 @@ impl Journal {
         match self.current {
             Some(current) => current.form,
             None => FORM,
+        }
+    }
+
+    /// Whether the current file has the last generation, so that a turn-over writes nothing.
+    pub fn is_at_last(&self) -> bool
+        ensures { result ≡ (next_generation self.now.current == 2 ^ 64) }
+    {
+        match self.current {
+            Some(current) => current.generation == u64::MAX,
+            None => false,
         }
     }
 
