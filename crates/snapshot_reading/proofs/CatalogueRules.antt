@@ -14,9 +14,9 @@ use Rattle.snapshot_text.specs.declared.parts.Snapshot.{Snapshot}
 use Rattle.snapshot_text.specs.Decoding.{AreMade, IsReadTo}
 use Rattle.snapshot_text.specs.Resources.{has_lasting, lists_text}
 use Rattle.snapshot_text.specs.Media.{slots_text, volumes_text}
-use Rattle.snapshot_text.specs.Snapshots.{catalogue_read, front_text, snapshot_at, snapshot_text}
-use Rattle.snapshot_reading.specs.Fits.{FitsCatalogue}
-use Rattle.snapshot_reading.specs.Spelled.{IsSpelled, kept_in}
+use Rattle.snapshot_text.specs.Snapshots.{catalogue_read, front_text, kept_in, snapshot_at, snapshot_text}
+use Rattle.snapshot_text.specs.Fits.{FitsCatalogue}
+use Rattle.snapshot_reading.specs.Spelled.{IsSpelled}
 use Rattle.snapshot_reading.proofs.Each.{all-as}
 use Rattle.snapshot_reading.proofs.FieldLaws.{AreFieldsIf, fields_text, fields-read}
 use Rattle.snapshot_reading.proofs.Found.{taken}
@@ -92,7 +92,7 @@ text-same indexed fields are =
     ap (λ (t : List ℕ). front_text (catalogue_in fields) ++ lists_text fields.lists ++ slots_text fields.slots ++ volumes_text fields.volumes ++ t) (sym (rows-same indexed fields.records records.order))
 
 -- what is read without indexes has none
-kept-same : (indexed : Bool) (fields : SnapshotFields) → AreFieldsIf indexed fields → catalogue_in fields ≡ kept_in indexed (catalogue_in fields)
+pub kept-same : (indexed : Bool) (fields : SnapshotFields) → AreFieldsIf indexed fields → catalogue_in fields ≡ kept_in indexed (catalogue_in fields)
 kept-same true fields are = refl
 kept-same false fields are =
     let records = records-allowed fields.next_ssid.0 false fields.records are.records in
@@ -112,11 +112,12 @@ is-spelled indexed bytes snapshot fits is =
     let found = taken (snapshot_at indexed) (fields_text indexed) (AreFieldsIf indexed) (fields-read indexed) bytes fields [] fits is.read in
     let allowed = fields-allowed indexed fields found.1 in
     let same = made-same fields snapshot is.made in
+    let kept = kept-same indexed fields found.1 ∙ ap (kept_in indexed) (sym same) in
     record {
       is = record {
         allowed = subst IsCatalogue (sym same) allowed.0;
-        fits = subst FitsCatalogue (sym same) allowed.1;
+        fits = subst FitsCatalogue kept allowed.1;
         text = found.0.parts ∙ append-nil (fields_text indexed fields) ∙ text-same indexed fields found.1 ∙ ap (snapshot_text indexed) (sym same);
       };
-      kept = same ∙ kept-same indexed fields found.1 ∙ ap (kept_in indexed) (sym same);
+      kept = same ∙ kept;
     }

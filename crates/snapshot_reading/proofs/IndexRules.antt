@@ -1,5 +1,5 @@
 -- The indexes of records: which one a set has, and how records are spelled with them.
-use Rattle.std.proofs.Common.{◌≡◌, ◌≢◌, ℕ, ◌<◌, Bool, true, false, cond, eqb, List, [], ◌∷◌, ◌++◌, length, Option, Some, None, refl, sym, ap, subst, ◌∙◌, arith}
+use Rattle.std.proofs.Common.{◌≡◌, ◌≢◌, ℕ, ◌<◌, Bool, true, false, cond, eqb, List, [], ◌∷◌, ◌++◌, length, Some, None, refl, sym, ap, subst, ◌∙◌, arith}
 use Rattle.std.specs.Prelude.{map, unwrap_or}
 use Rattle.std.specs.List.{AllByRecursion, flat_map}
 use Rattle.std.specs.Option.{option_map}
@@ -17,8 +17,9 @@ use Rattle.save_stream.specs.declared.entry.IndexEntry.{IndexEntry}
 use Rattle.catalog_text.specs.Fields.{number_bytes}
 use Rattle.snapshot_text.specs.declared.fields.ListedRecord.{ListedRecord}
 use Rattle.snapshot_text.specs.Records.{listed_ssid, listed_text, records_text}
-use Rattle.snapshot_text.specs.Snapshots.{listed_in, rows_text}
+use Rattle.snapshot_text.specs.Snapshots.{kept_index, listed_in, rows_text}
 use Rattle.snapshot_text.specs.Storing.{set_of}
+use Rattle.snapshot_text.proofs.Fitting.{chosen_row, kept_none, row_later}
 use Rattle.snapshot_reading.proofs.Each.{all-as, all-both, same-texts}
 use Rattle.snapshot_reading.proofs.Storing.{row-of}
 
@@ -51,16 +52,10 @@ index-holds P none (listed ∷ records) each ssid =
 
 -- ---- sets on record
 
-abbrev chosen_row : Record → List Record → ℕ → Bool → Option Record
-chosen_row row rows ssid test = cond test (Some row) (find_record ssid rows)
-
 row-here : (row : Record) (rows : List Record) (ssid : ℕ) → row.ssid.0 ≡ ssid → find_record ssid (row ∷ rows) ≡ Some row
 row-here row rows ssid is =
     let same : eq_by_cmp nat_cmp row.ssid.0 ssid ≡ true = subst (λ (n : ℕ). eq_by_cmp nat_cmp row.ssid.0 n ≡ true) is (same_number row.ssid.0) in
     ap (chosen_row row rows ssid) same
-
-row-later : (row : Record) (rows : List Record) (ssid : ℕ) → row.ssid.0 ≢ ssid → find_record ssid (row ∷ rows) ≡ find_record ssid rows
-row-later row rows ssid is = ap (chosen_row row rows ssid) (other_number row.ssid.0 ssid is)
 
 -- only sets on record have an index
 pub index-none : (records : List ListedRecord) (ssid : ℕ) → find_record ssid (map row-of records) ≡ None → index_in records ssid ≡ []
@@ -71,7 +66,7 @@ index-none (listed ∷ records) ssid none =
       | false ↦
           (λ same.
           let other = eqb-false listed.row.ssid.0 ssid same in
-          found-later listed records ssid other ∙ index-none records ssid (sym (row-later listed.row (map row-of records) ssid other) ∙ none))
+          found-later listed records ssid other ∙ index-none records ssid (sym (row_later listed.row (map row-of records) ssid other) ∙ none))
     ] refl
 
 -- ---- the index of each record is its own
@@ -118,15 +113,6 @@ rows-same indexed records order =
 
 -- ---- records of a catalogue
 
--- an index that is kept where there are indexes
-abbrev pub kept_index : Bool → List IndexEntry → List IndexEntry
-kept_index true index = index
-kept_index false index = []
-
-kept-none : (indexed : Bool) → kept_index indexed [] ≡ []
-kept-none true = refl
-kept-none false = refl
-
 abbrev pub listed_as : Bool → (ℕ → List IndexEntry) → Record → ListedRecord
 listed_as indexed index row = record { row = row; index = kept_index indexed (index row.ssid.0) }
 
@@ -136,7 +122,7 @@ rows-again indexed index (row ∷ rows) = ap (λ (more : List Record). row ∷ m
 
 pub index-again : (indexed : Bool) (index : ℕ → List IndexEntry) (rows : List Record) (ssid : ℕ) → (find_record ssid rows ≡ None → index ssid ≡ [])
     → index_in (map (listed_as indexed index) rows) ssid ≡ kept_index indexed (index ssid)
-index-again indexed index [] ssid none = sym (ap (kept_index indexed) (none refl) ∙ kept-none indexed)
+index-again indexed index [] ssid none = sym (ap (kept_index indexed) (none refl) ∙ kept_none indexed)
 index-again indexed index (row ∷ rows) ssid none =
     let listed = listed_as indexed index row in
     let more = map (listed_as indexed index) rows in
@@ -148,5 +134,5 @@ index-again indexed index (row ∷ rows) ssid none =
       | false ↦
           (λ same.
           let other = eqb-false row.ssid.0 ssid same in
-          found-later listed more ssid other ∙ index-again indexed index rows ssid (λ is. none (row-later row rows ssid other ∙ is)))
+          found-later listed more ssid other ∙ index-again indexed index rows ssid (λ is. none (row_later row rows ssid other ∙ is)))
     ] refl

@@ -26,7 +26,7 @@ use Rattle.catalog_text.specs.Sections.{FitsSection}
 use Rattle.catalog_text.proofs.Behind.{Rises, rising-is, rising-behind, above-is, above-again}
 use Rattle.snapshot_text.specs.Media.{fits_state, is_above, is_drawn, is_first_begun, is_free, is_next_drawn}
 use Rattle.snapshot_text.proofs.CanWrite.{slots_count}
-use Rattle.snapshot_reading.specs.Fits.{FitsCopy, FitsVolume}
+use Rattle.snapshot_text.specs.Fits.{FitsCopy, FitsVolume}
 use Rattle.snapshot_reading.proofs.Each.{all-append, all-apart, all-both, all-with, behind-apart, behind-as, behind-both}
 use Rattle.snapshot_reading.proofs.MediaLaws.{AreCopiesIf, AreSectionsOf, AreSlotsIf, AreVolumesIf, IsNextCopy, IsNextSlot, IsNextVolume}
 

@@ -16,7 +16,7 @@ use Rattle.catalog_change.specs.Catalogues.{HasRecords, IsLonger, IsRecord, max_
 use Rattle.catalog_text.proofs.Behind.{Rises, rising-is, rising-behind}
 use Rattle.snapshot_text.specs.declared.fields.ListedRecord.{ListedRecord}
 use Rattle.snapshot_text.specs.Records.{is_longer, listed_ssid}
-use Rattle.snapshot_reading.specs.Fits.{FitsRecord}
+use Rattle.snapshot_text.specs.Fits.{FitsRecord}
 use Rattle.snapshot_reading.proofs.Each.{all-apart, all-both, all-mapped, all-of-mapped, behind-as}
 use Rattle.snapshot_reading.proofs.MediaRules.{HasCopies, copies-allowed, copies-again, next_drawn-is, next_drawn-again}
 use Rattle.snapshot_reading.proofs.RecordLaws.{AreRecordsIf, IsIndexIf, IsNextListed}
@@ -56,7 +56,7 @@ listed-is next indexed before listed is =
             count = copies.count;
             state = copies.fit;
           },
-          record { files = row.files; bytes = row.size.0; next_copy = row.next; changed = row.changed; copies = copies.fits },
+          record { numbers = record { files = row.files; bytes = row.size.0; next_copy = row.next; changed = row.changed }; copies = copies.fits },
         ),
         is.index,
       ),
@@ -73,11 +73,11 @@ listed-again next indexed before listed is =
       head = (row.head, next_drawn-again max_number next listed_ssid before listed.row.ssid.0 (row.head.ssid.0, row.drawn, is.1));
       row = record {
         same = refl;
-        files = fits.files;
-        size = (fits.bytes, longer-again listed.row.state listed.row row.bytes);
+        files = fits.numbers.files;
+        size = (fits.numbers.bytes, longer-again listed.row.state listed.row row.bytes);
         digest = row.digest;
-        next = fits.next_copy;
-        changed = fits.changed;
+        next = fits.numbers.next_copy;
+        changed = fits.numbers.changed;
         copies = copies-again listed.row.state listed.row.next_copy listed.row.copies copies;
       };
       index = is.0.1;

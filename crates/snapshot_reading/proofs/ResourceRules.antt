@@ -6,17 +6,15 @@ use Rattle.std.specs.Ordering.{nat_cmp}
 use Rattle.std.specs.Cmp.Lexicographic.{slice_cmp}
 use Rattle.room_rules.specs.declared.group.Group.{Group}
 use Rattle.room_rules.specs.declared.policy.Policy.{Policy}
-use Rattle.room_rules.specs.declared.pool.Pool.{Pool}
 use Rattle.room_rules.specs.declared.schedule.Schedule.{Schedule}
 use Rattle.save_stream.proofs.Again.{both}
 use Rattle.save_stream.proofs.Sound.{both-true}
 use Rattle.catalog_change.specs.Catalogues.{AreNamed, Catalogue, HasClient, HasPolicies, HasResources, HasSchedule}
 use Rattle.catalog_change.specs.declared.resource.Client.{Client}
-use Rattle.catalog_change.specs.declared.resource.Resource.TheVariants as resources
 use Rattle.catalog_change.specs.Resources.{IsClient, IsGroup, IsMember, IsPolicy, IsPool, IsSchedule, client_name, group_name, policy_name, pool_name, schedule_name}
 use Rattle.catalog_text.specs.Lists.{AllBehind, last_item}
-use Rattle.catalog_text.specs.Resources.{FitsResource}
 use Rattle.catalog_text.proofs.Behind.{Rises, rising-is, rising-behind}
+use Rattle.snapshot_text.specs.Fits.{FitsPool, FitsSchedule}
 use Rattle.snapshot_text.specs.Names.{is_next_name, is_there}
 use Rattle.snapshot_text.specs.Resources.{has_lasting}
 use Rattle.snapshot_text.specs.Snapshots.{lists_of}
@@ -79,12 +77,6 @@ group-again schedules clients before group is =
     }
 
 -- ---- all of them
-
-abbrev pub FitsPool : Pool → Type 0
-FitsPool pool = FitsResource (resources.Pool pool)
-
-abbrev pub FitsSchedule : Schedule → Type 0
-FitsSchedule schedule = FitsResource (resources.Schedule schedule)
 
 -- the resources of a catalogue, with numbers in the ranges of their bytes
 pub record AreAllowed (catalogue : Catalogue) : Type 0 where

@@ -19,14 +19,14 @@ use Rattle.snapshot_text.specs.declared.fields.SnapshotFields.{SnapshotFields}
 use Rattle.snapshot_text.specs.declared.parts.Snapshot.{Snapshot}
 use Rattle.snapshot_text.specs.Decoding.{Decodes, StopsAtPlace}
 use Rattle.snapshot_text.specs.Records.{listed_ssid}
-use Rattle.snapshot_text.specs.Snapshots.{catalogue_read, lists_of, snapshot_at, snapshot_text}
-use Rattle.snapshot_reading.specs.Fits.{FitsCatalogue, FitsRecord}
-use Rattle.snapshot_reading.specs.Spelled.{IsReadBack, IsText, kept_in}
-use Rattle.snapshot_reading.proofs.CatalogueRules.{catalogue_in, fields-allowed, is-spelled, made-same, text-same}
+use Rattle.snapshot_text.specs.Snapshots.{catalogue_read, kept_in, kept_index, lists_of, snapshot_at, snapshot_text}
+use Rattle.snapshot_text.specs.Fits.{FitsCatalogue, FitsRecord}
+use Rattle.snapshot_reading.specs.Spelled.{IsReadBack, IsText}
+use Rattle.snapshot_reading.proofs.CatalogueRules.{catalogue_in, fields-allowed, is-spelled, kept-same, made-same, text-same}
 use Rattle.snapshot_reading.proofs.Each.{all-any, all-mapped}
 use Rattle.snapshot_reading.proofs.FieldLaws.{AreFieldsIf, fields_text, fields-read}
 use Rattle.snapshot_reading.proofs.Found.{taken}
-use Rattle.snapshot_reading.proofs.IndexRules.{index_in, index-again, kept_index, listed_as, rows-again}
+use Rattle.snapshot_reading.proofs.IndexRules.{index_in, index-again, listed_as, rows-again}
 use Rattle.snapshot_reading.proofs.MediaRules.{slots-again, volumes-again}
 use Rattle.snapshot_reading.proofs.RecordLaws.{IsIndexIf}
 use Rattle.snapshot_reading.proofs.RecordRules.{HasListed, ascends-mapped, records-again}
@@ -46,11 +46,11 @@ fields_of indexed catalogue = record {
   records = map (listed_as indexed catalogue.index) catalogue.records;
 }
 
-index-if : (indexed : Bool) (index : List IndexEntry) → AreEntries index → AllByRecursion FitsEntry index → IsIndexIf indexed (kept_index indexed index)
+index-if : (indexed : Bool) (index : List IndexEntry) → AreEntries index → AllByRecursion FitsEntry (kept_index indexed index) → IsIndexIf indexed (kept_index indexed index)
 index-if true index are fits = (are, (omega arith, omega (arith, are.count)), fits)
 index-if false index are fits = refl
 
-fields-are : (indexed : Bool) (catalogue : Catalogue) → IsCatalogue catalogue → FitsCatalogue catalogue → AreFieldsIf indexed (fields_of indexed catalogue)
+fields-are : (indexed : Bool) (catalogue : Catalogue) → IsCatalogue catalogue → FitsCatalogue (kept_in indexed catalogue) → AreFieldsIf indexed (fields_of indexed catalogue)
 fields-are indexed catalogue is fits =
     let listed = listed_as indexed catalogue.index in
     let rows = sym (rows-again indexed catalogue.index catalogue.records) in
@@ -73,10 +73,6 @@ fields-are indexed catalogue is fits =
       records = records-again catalogue.next_ssid indexed (map listed catalogue.records) records;
     }
 
-kept-in : (indexed : Bool) (catalogue : Catalogue) → (let made : Catalogue = record catalogue { index = λ ssid. kept_index indexed (catalogue.index ssid) } in made) ≡ kept_in indexed catalogue
-kept-in true catalogue = refl
-kept-in false catalogue = refl
-
 fields-same : (indexed : Bool) (catalogue : Catalogue) → IsCatalogue catalogue → catalogue_in (fields_of indexed catalogue) ≡ kept_in indexed catalogue
 fields-same indexed catalogue is =
     let records = map (listed_as indexed catalogue.index) catalogue.records in
@@ -84,13 +80,12 @@ fields-same indexed catalogue is =
     fun_ext (λ ssid. index-again indexed catalogue.index catalogue.records ssid (is.indexes ssid).1) in
     ap (λ (rows : List Record). record catalogue { records = rows; index = index_in records }) (rows-again indexed catalogue.index catalogue.records)
     ∙ ap (λ (sets : ℕ → List IndexEntry). record catalogue { index = sets }) index
-    ∙ kept-in indexed catalogue
 
 kept-text : (indexed : Bool) (catalogue : Catalogue) → snapshot_text indexed (kept_in indexed catalogue) ≡ snapshot_text indexed catalogue
 kept-text true catalogue = refl
 kept-text false catalogue = refl
 
-text-of : (indexed : Bool) (catalogue : Catalogue) → IsCatalogue catalogue → FitsCatalogue catalogue → fields_text indexed (fields_of indexed catalogue) ≡ snapshot_text indexed catalogue
+text-of : (indexed : Bool) (catalogue : Catalogue) → IsCatalogue catalogue → FitsCatalogue (kept_in indexed catalogue) → fields_text indexed (fields_of indexed catalogue) ≡ snapshot_text indexed catalogue
 text-of indexed catalogue is fits =
     text-same indexed (fields_of indexed catalogue) (fields-are indexed catalogue is fits)
     ∙ ap (snapshot_text indexed) (fields-same indexed catalogue is)
@@ -98,7 +93,7 @@ text-of indexed catalogue is fits =
 
 -- ---- what is spelled is read back
 
-whole-read : (indexed : Bool) (catalogue : Catalogue) → IsCatalogue catalogue → FitsCatalogue catalogue → snapshot_at indexed (snapshot_text indexed catalogue) ≡ Ok (fields_of indexed catalogue, [])
+whole-read : (indexed : Bool) (catalogue : Catalogue) → IsCatalogue catalogue → FitsCatalogue (kept_in indexed catalogue) → snapshot_at indexed (snapshot_text indexed catalogue) ≡ Ok (fields_of indexed catalogue, [])
 whole-read indexed catalogue is fits =
     let fields = fields_of indexed catalogue in
     ap (snapshot_at indexed) (sym (text-of indexed catalogue is fits) ∙ sym (append-nil (fields_text indexed fields))) ∙ (fields-read indexed).again fields [] (fields-are indexed catalogue is fits)
@@ -116,7 +111,7 @@ same-read part fields other rest more is also =
 no-fault : (part : Part SnapshotFields) (fields : SnapshotFields) (rest : List ℕ) (behind : ℕ) → part ≡ Ok (fields, rest) → part ≡ Err behind → ⊥
 no-fault part fields rest behind is also = cc
 
-pub read-back : (indexed : Bool) (catalogue : Catalogue) (answer : Result Snapshot DecodeFault) → IsCatalogue catalogue → FitsCatalogue catalogue → Decodes indexed (snapshot_text indexed catalogue) answer
+pub read-back : (indexed : Bool) (catalogue : Catalogue) (answer : Result Snapshot DecodeFault) → IsCatalogue catalogue → FitsCatalogue (kept_in indexed catalogue) → Decodes indexed (snapshot_text indexed catalogue) answer
     → IsReadBack indexed catalogue answer
 read-back indexed catalogue (Ok snapshot) is fits decodes =
     let same = same-read (snapshot_at indexed (snapshot_text indexed catalogue)) decodes.fields (fields_of indexed catalogue) [] [] decodes.read (whole-read indexed catalogue is fits) in
@@ -168,7 +163,7 @@ judged-bytes indexed bytes (Ok (fields, [])) fits is =
     let allowed = fields-allowed indexed fields found.1 in
     inl (
       catalogue_in fields,
-      record { allowed = allowed.0; fits = allowed.1; text = found.0.parts ∙ append-nil (fields_text indexed fields) ∙ text-same indexed fields found.1 },
+      record { allowed = allowed.0; fits = subst FitsCatalogue (kept-same indexed fields found.1) allowed.1; text = found.0.parts ∙ append-nil (fields_text indexed fields) ∙ text-same indexed fields found.1 },
     )
 judged-bytes indexed bytes (Ok (fields, byte ∷ rest)) fits is =
     inr (

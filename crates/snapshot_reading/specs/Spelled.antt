@@ -1,21 +1,16 @@
 -- Snapshots and the catalogues that they spell.
-use Rattle.std.specs.Prelude.{◌≡◌, ℕ, Bool, true, false, List, [], Result, Ok, Err}
+use Rattle.std.specs.Prelude.{◌≡◌, ℕ, Bool, List, Result, Ok, Err}
 use Rattle.catalog_change.specs.Catalogues.{Catalogue, IsCatalogue}
 use Rattle.catalog_text.specs.declared.fault.DecodeFault.{DecodeFault}
 use Rattle.catalog_text.specs.declared.fault.DecodeFault.TheVariants as faults
-use Rattle.snapshot_text.specs.Snapshots.{catalogue_read, snapshot_text}
+use Rattle.snapshot_text.specs.Snapshots.{catalogue_read, kept_in, snapshot_text}
 use Rattle.snapshot_text.specs.declared.parts.Snapshot.{Snapshot}
-use Rattle.snapshot_reading.specs.Fits.{FitsCatalogue}
-
--- a catalogue as a text has it, with its indexes or without
-abbrev pub kept_in : Bool → Catalogue → Catalogue
-kept_in true catalogue = catalogue
-kept_in false catalogue = record catalogue { index = λ ssid. [] }
+use Rattle.snapshot_text.specs.Fits.{FitsCatalogue}
 
 -- the bytes are the one spelling of a catalogue that is allowed
 pub record IsText (indexed : Bool) (bytes : List ℕ) (catalogue : Catalogue) : Type 0 where
   pub allowed : IsCatalogue catalogue
-  pub fits : FitsCatalogue catalogue
+  pub fits : FitsCatalogue (kept_in indexed catalogue)
   pub text : bytes ≡ snapshot_text indexed catalogue
 
 -- the bytes are those of the catalogue that was read, which has no indexes where they have none

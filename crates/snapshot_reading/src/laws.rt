@@ -8,15 +8,15 @@ ghost use Rattle.catalog_text.specs.declared.fault.DecodeFault.TheVariants as fa
 ghost use Rattle.catalog_text.specs.Decoding.{HasBad};
 ghost use Rattle.snapshot_text.specs.declared.parts.Snapshot.{Snapshot};
 ghost use Rattle.snapshot_text.specs.Decoding.{Decodes};
-ghost use Rattle.snapshot_text.specs.Snapshots.{catalogue_read, snapshot_at, snapshot_text};
-ghost use Rattle.snapshot_reading.specs.Fits.{FitsCatalogue};
-ghost use Rattle.snapshot_reading.specs.Spelled.{IsReadBack, IsText, kept_in};
+ghost use Rattle.snapshot_text.specs.Snapshots.{catalogue_read, kept_in, snapshot_at, snapshot_text};
+ghost use Rattle.snapshot_text.specs.Fits.{FitsCatalogue};
+ghost use Rattle.snapshot_reading.specs.Spelled.{IsReadBack, IsText};
 
 /// The spelling of an allowed catalogue, with its indexes or without, is read to that catalogue,
 /// unless memory runs out.
 pub fn written_snapshots_are_read()
     ensures { (indexed : Bool) (catalogue : Catalogue) (answer : Result Snapshot DecodeFault)
-        → IsCatalogue catalogue → FitsCatalogue catalogue
+        → IsCatalogue catalogue → FitsCatalogue (kept_in indexed catalogue)
         → Decodes indexed (snapshot_text indexed catalogue) answer
         → IsReadBack indexed catalogue answer }
 {}

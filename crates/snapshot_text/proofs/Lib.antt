@@ -1,3 +1,4 @@
 pub mod CanWrite
 pub mod Sizes
 pub mod Lengths
+pub mod Fitting

@@ -5,6 +5,7 @@ pub mod Media
 pub mod Heads
 pub mod Records
 pub mod Snapshots
+pub mod Fits
 pub mod Storing
 pub mod Decoding
 pub mod Writing

@@ -1,5 +1,5 @@
 -- Snapshots: all that a catalogue holds, as bytes.
-use Rattle.std.specs.Prelude.{ℕ, Bool, ◌==◌, List, ◌++◌, Ok}
+use Rattle.std.specs.Prelude.{ℕ, Bool, true, false, ◌==◌, List, [], ◌++◌, Ok}
 use Rattle.client_index.specs.Sets.{entries_or_none}
 use Rattle.media_db.specs.declared.records.Record.{Record}
 use Rattle.save_stream.specs.declared.entry.IndexEntry.{IndexEntry}
@@ -79,6 +79,16 @@ front_text catalogue =
 abbrev pub rows_text : Bool → (ℕ → List IndexEntry) → List Record → List ℕ
 rows_text indexed index rows =
     list_text (number_bytes 4) (λ row. listed_text indexed (listed_in index row)) rows
+
+-- an index as a text has it, which has it where indexes are written
+abbrev pub kept_index : Bool → List IndexEntry → List IndexEntry
+kept_index true index = index
+kept_index false index = []
+
+-- a catalogue as its text has it, with its indexes or without
+abbrev pub kept_in : Bool → Catalogue → Catalogue
+kept_in indexed catalogue =
+    record catalogue { index = λ ssid. kept_index indexed (catalogue.index ssid) }
 
 abbrev pub snapshot_text : Bool → Catalogue → List ℕ
 snapshot_text indexed catalogue =

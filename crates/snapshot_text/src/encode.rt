@@ -1,12 +1,15 @@
 //! Writes snapshots.
 
-ghost use Rattle.std.specs.Prelude.{◌≡◌, ◌≤◌, length, IfOk};
+ghost use Rattle.std.specs.Prelude.{◌≡◌, ◌≤◌, length, IfOk, OnOk};
 ghost use Rattle.std.specs.Io.Iter.{u64_saturate};
+ghost use Rattle.std.specs.List.{AllByRecursion};
 ghost use Rattle.catalog_change.specs.Catalogues.{HasResources, IsCatalogue};
 ghost use Rattle.catalog_text.specs.Writing.{HasRoom, Appends};
 ghost use Rattle.snapshot_text.specs.Resources.{lists_text};
 ghost use Rattle.snapshot_text.specs.Writing.{first_size};
-ghost use Rattle.snapshot_text.specs.Snapshots.{catalogue_lent, front_text, lists_of, snapshot_text};
+ghost use Rattle.snapshot_text.specs.Fits.{FitsCatalogue, FitsPool, FitsSchedule};
+ghost use Rattle.snapshot_text.specs.Snapshots.{catalogue_lent, front_text, kept_in, lists_of};
+ghost use Rattle.snapshot_text.specs.Snapshots.{snapshot_text};
 
 use crate::SnapshotParts;
 use crate::media_writing::{
@@ -22,8 +25,10 @@ use std::alloc::Global;
 /// Writes a catalogue in its one spelling, with its indexes or without.
 pub fn snapshot(alloc: Global, parts: &SnapshotParts, with_indexes: bool) -> Result<Vec<u8>, Memory>
     requires { IsCatalogue (catalogue_lent parts.now) }
-    ensures { IfOk result
+    ensures text { IfOk result
         (λ bytes. bytes.items ≡ snapshot_text with_indexes (catalogue_lent parts.now)) }
+    ensures fits { OnOk result
+        (FitsCatalogue (kept_in with_indexes (catalogue_lent parts.now))) }
 {
     let length = snapshot_length(parts, with_indexes);
     if length == u64::MAX {
@@ -60,7 +65,9 @@ const FRONT_SIZE: u64 = 34;
 pub fn snapshot_into(parts: &SnapshotParts, with_indexes: bool, into: &mut Vec<u8>)
     requires allowed { IsCatalogue (catalogue_lent parts.now) }
     requires room { HasRoom into.old (snapshot_text with_indexes (catalogue_lent parts.now)) }
-    ensures { Appends into.old into.new (snapshot_text with_indexes (catalogue_lent parts.now)) }
+    ensures text { Appends into.old into.new
+        (snapshot_text with_indexes (catalogue_lent parts.now)) }
+    ensures fits { FitsCatalogue (kept_in with_indexes (catalogue_lent parts.now)) }
 {
     put_front(into, parts);
     put_resources(into, parts);
@@ -86,7 +93,9 @@ fn put_front(into: &mut Vec<u8>, parts: &SnapshotParts)
 fn put_resources(into: &mut Vec<u8>, parts: &SnapshotParts)
     requires allowed { HasResources (catalogue_lent parts.now) }
     requires room { HasRoom into.old (lists_text (lists_of (catalogue_lent parts.now))) }
-    ensures { Appends into.old into.new (lists_text (lists_of (catalogue_lent parts.now))) }
+    ensures text { Appends into.old into.new (lists_text (lists_of (catalogue_lent parts.now))) }
+    ensures pools { AllByRecursion FitsPool parts.now.pools.now }
+    ensures schedules { AllByRecursion FitsSchedule parts.now.schedules.now }
 {
     let held = parts.policies.len() + parts.pools.len() + parts.clients.len();
     put_u32(

@@ -6,11 +6,13 @@ ghost use Rattle.std.specs.List.{AllByRecursion};
 ghost use Rattle.catalog_change.specs.Catalogues.{AreSlots};
 ghost use Rattle.catalog_change.specs.Changes.{AreEntries};
 ghost use Rattle.catalog_change.specs.Resources.{IsShortName};
-ghost use Rattle.catalog_text.specs.Entries.{index_text};
+ghost use Rattle.catalog_text.specs.Entries.{index_text, FitsEntry};
 ghost use Rattle.catalog_text.specs.Writing.{HasRoom, Appends};
 ghost use Rattle.client_index.specs.Sets.{entries_or_none};
 ghost use Rattle.media_db.specs.Streams.{head_of};
 ghost use Rattle.save_stream.specs.Heads.{head_of_parts};
+ghost use Rattle.snapshot_text.specs.Fits.{FitsCopy, FitsNumbers, FitsRecord, FitsRow, FitsVolume};
+ghost use Rattle.snapshot_text.specs.Snapshots.{kept_index};
 ghost use Rattle.snapshot_text.specs.Media.{copies_text, copy_byte, copy_text, slot_text};
 ghost use Rattle.snapshot_text.specs.Media.{slots_text, volume_text, volumes_text};
 ghost use Rattle.snapshot_text.specs.Records.{index_if_text, listed_text, record_text, state_byte};
@@ -76,6 +78,8 @@ impl PutItem for Volumes {
 
     ghost Is = { λ self volume. IsShortName volume.pool };
 
+    ghost Fits = { λ self. FitsVolume };
+
     fn put(&self, volume: &VolumeRec, into: &mut Vec<u8>) {
         put_volume(into, volume)
     }
@@ -89,7 +93,8 @@ impl PutItem for Volumes {
 fn put_volume(into: &mut Vec<u8>, volume: &VolumeRec)
     requires allowed { IsShortName volume.now.pool }
     requires room { HasRoom into.old (volume_text volume.now) }
-    ensures { Appends into.old into.new (volume_text volume.now) }
+    ensures text { Appends into.old into.new (volume_text volume.now) }
+    ensures fits { FitsVolume volume.now }
 {
     put_u64(into, volume.volid.0);
     put_u32(into, volume.cart.0);
@@ -107,6 +112,8 @@ impl PutItem for Copies {
 
     ghost Is = { λ self. HasSections };
 
+    ghost Fits = { λ self. FitsCopy };
+
     fn put(&self, copy: &SetCopy, into: &mut Vec<u8>) {
         put_copy(into, copy)
     }
@@ -120,7 +127,8 @@ impl PutItem for Copies {
 fn put_copy(into: &mut Vec<u8>, copy: &SetCopy)
     requires allowed { HasSections copy.now }
     requires room { HasRoom into.old (copy_text copy.now) }
-    ensures { Appends into.old into.new (copy_text copy.now) }
+    ensures text { Appends into.old into.new (copy_text copy.now) }
+    ensures fits { FitsCopy copy.now }
 {
     put_u32(into, copy.no.0);
     put_u8(into, copy_byte(copy.state));
@@ -140,7 +148,8 @@ fn put_copies(into: &mut Vec<u8>, copies: &[SetCopy])
     requires allowed { AllByRecursion HasSections copies.now }
     requires count { length copies.now ≤ 255 }
     requires room { HasRoom into.old (copies_text copies.now) }
-    ensures { Appends into.old into.new (copies_text copies.now) }
+    ensures text { Appends into.old into.new (copies_text copies.now) }
+    ensures fits { AllByRecursion FitsCopy copies.now }
 {
     put_u8(into, copies.len() as u8);
     put_items(&Copies, copies, into);
@@ -160,6 +169,8 @@ impl<'a> PutItem for Records<'a> {
 
     ghost Is = { λ writer row. CanWriteRow row × CanWriteIndex writer.index.now.sets row };
 
+    ghost Fits = { λ writer row. FitsRow writer.index.now.sets writer.indexed row };
+
     fn put(&self, row: &Record, into: &mut Vec<u8>) {
         put_row(into, row);
         put_index(into, self.index, self.indexed, row.ssid);
@@ -174,7 +185,8 @@ impl<'a> PutItem for Records<'a> {
 fn put_row(into: &mut Vec<u8>, row: &Record)
     requires allowed { CanWriteRow row.now }
     requires room { HasRoom into.old (record_text row.now) }
-    ensures { Appends into.old into.new (record_text row.now) }
+    ensures text { Appends into.old into.new (record_text row.now) }
+    ensures fits { FitsRecord row.now }
 {
     encode_head_into(&parts_of(row), into);
     put_fields(into, row);
@@ -183,7 +195,8 @@ fn put_row(into: &mut Vec<u8>, row: &Record)
 fn put_fields(into: &mut Vec<u8>, row: &Record)
     requires allowed { CanWriteRow row.now }
     requires room { HasRoom into.old (fields_text row.now) }
-    ensures { Appends into.old into.new (fields_text row.now) }
+    ensures text { Appends into.old into.new (fields_text row.now) }
+    ensures fits { FitsRecord row.now }
 {
     put_state(into, row);
     put_copies(into, row.copies.as_slice());
@@ -209,7 +222,8 @@ fn parts_of(row: &Record) -> HeadParts<'_>
 
 fn put_state(into: &mut Vec<u8>, row: &Record)
     requires { HasRoom into.old (state_text row.now) }
-    ensures { Appends into.old into.new (state_text row.now) }
+    ensures text { Appends into.old into.new (state_text row.now) }
+    ensures fits { FitsNumbers row.now }
 {
     put_flag(into, row.hold);
     put_u8(into, state_byte(row.state));
@@ -235,8 +249,10 @@ fn state_byte(state: RecordState) -> u8
 fn put_index(into: &mut Vec<u8>, index: &ClientIndex, indexed: bool, ssid: Ssid)
     requires allowed { AreEntries (entries_or_none index.now.sets ssid) }
     requires room { HasRoom into.old (index_if_text indexed (entries_or_none index.now.sets ssid)) }
-    ensures { Appends into.old into.new
+    ensures text { Appends into.old into.new
         (index_if_text indexed (entries_or_none index.now.sets ssid)) }
+    ensures fits { AllByRecursion FitsEntry
+        (kept_index indexed (entries_or_none index.now.sets ssid)) }
 {
     if !indexed {
         return;
@@ -298,7 +314,8 @@ pub(crate) fn put_volumes(into: &mut Vec<u8>, db: &MediaDb)
     requires allowed { AllByRecursion (λ volume. IsShortName volume.pool) db.now.volumes }
     requires count { length db.now.volumes < 2 ^ 32 }
     requires room { HasRoom into.old (volumes_text db.now.volumes) }
-    ensures { Appends into.old into.new (volumes_text db.now.volumes) }
+    ensures text { Appends into.old into.new (volumes_text db.now.volumes) }
+    ensures fits { AllByRecursion FitsVolume db.now.volumes }
 {
     put_list(&Volumes, db.volumes(), into);
 }
@@ -309,7 +326,8 @@ pub(crate) fn put_rows(into: &mut Vec<u8>, db: &MediaDb, index: &ClientIndex, in
         (λ row. CanWriteRow row × CanWriteIndex index.now.sets row) db.now.records }
     requires count { length db.now.records < 2 ^ 32 }
     requires room { HasRoom into.old (rows_by index.now.sets indexed db.now.records) }
-    ensures { Appends into.old into.new (rows_by index.now.sets indexed db.now.records) }
+    ensures text { Appends into.old into.new (rows_by index.now.sets indexed db.now.records) }
+    ensures fits { AllByRecursion (FitsRow index.now.sets indexed) db.now.records }
 {
     put_list(&Records { index, indexed }, db.records(), into);
 }

@@ -18,11 +18,15 @@ pub(crate) trait PutItem {
     /// What an item needs to be written.
     ghost Is: { Self → Self.Item → Type 0 };
 
+    /// That the numbers of an item that are written are in the ranges of their types.
+    ghost Fits: { Self → Self.Item → Type 0 } = { λ _ _. Unit {0} };
+
     /// Appends an item, for which there is room.
     fn put(&self, item: &Self::Item, into: &mut Vec<u8>)
         requires allowed { Is self.now item.now }
         requires room { HasRoom into.old (text self.now item.now) }
-        ensures { Appends into.old into.new (text self.now item.now) };
+        ensures text { Appends into.old into.new (text self.now item.now) }
+        ensures fits { Fits self.now item.now };
 
     /// How many bytes an item has, or the greatest number where that is less.
     fn length(&self, item: &Self::Item) -> u64
@@ -34,7 +38,8 @@ pub(crate) trait PutItem {
 pub(crate) fn put_items<P: PutItem>(writer: &P, items: &[P::Item], into: &mut Vec<u8>)
     requires allowed { AllByRecursion (P.Is writer.now) items.now }
     requires room { HasRoom into.old (flat_map (P.text writer.now) items.now) }
-    ensures { Appends into.old into.new (flat_map (P.text writer.now) items.now) }
+    ensures text { Appends into.old into.new (flat_map (P.text writer.now) items.now) }
+    ensures fits { AllByRecursion (P.Fits writer.now) items.now }
 {
     for item in items {
         writer.put(item, into);
@@ -46,8 +51,9 @@ pub(crate) fn put_list<P: PutItem>(writer: &P, items: &[P::Item], into: &mut Vec
     requires allowed { AllByRecursion (P.Is writer.now) items.now }
     requires count { length items.now < 2 ^ 32 }
     requires room { HasRoom into.old (list_text (number_bytes 4) (P.text writer.now) items.now) }
-    ensures { Appends into.old into.new
+    ensures text { Appends into.old into.new
         (list_text (number_bytes 4) (P.text writer.now) items.now) }
+    ensures fits { AllByRecursion (P.Fits writer.now) items.now }
 {
     put_u32(into, items.len() as u32);
     put_items(writer, items, into);

@@ -6,6 +6,7 @@ ghost use Rattle.catalog_change.specs.Resources.{IsPolicy, IsPool, IsClient, IsS
 ghost use Rattle.catalog_change.specs.declared.resource.Resource.TheVariants as resources;
 ghost use Rattle.catalog_text.specs.Resources.{fields_text, resource_text, unit_byte, period_byte};
 ghost use Rattle.catalog_text.specs.Writing.{HasRoom, Appends};
+ghost use Rattle.snapshot_text.specs.Fits.{FitsPool, FitsSchedule};
 
 use crate::put_item::PutItem;
 use catalog_change::{Client, ResourceKind};
@@ -73,6 +74,8 @@ impl PutItem for Pools {
 
     ghost Is = { λ self. IsPool };
 
+    ghost Fits = { λ self. FitsPool };
+
     fn put(&self, pool: &Pool, into: &mut Vec<u8>) {
         put_pool(into, pool)
     }
@@ -85,7 +88,8 @@ impl PutItem for Pools {
 fn put_pool(into: &mut Vec<u8>, pool: &Pool)
     requires allowed { IsPool pool.now }
     requires room { HasRoom into.old (resource_text (resources.Pool pool.now)) }
-    ensures { Appends into.old into.new (resource_text (resources.Pool pool.now)) }
+    ensures text { Appends into.old into.new (resource_text (resources.Pool pool.now)) }
+    ensures fits { FitsPool pool.now }
 {
     put_u8(into, resource_byte(ResourceKind::Pool));
     put_pool_fields(into, pool);
@@ -94,7 +98,8 @@ fn put_pool(into: &mut Vec<u8>, pool: &Pool)
 fn put_pool_fields(into: &mut Vec<u8>, pool: &Pool)
     requires allowed { IsPool pool.now }
     requires room { HasRoom into.old (fields_text (resources.Pool pool.now)) }
-    ensures { Appends into.old into.new (fields_text (resources.Pool pool.now)) }
+    ensures text { Appends into.old into.new (fields_text (resources.Pool pool.now)) }
+    ensures fits { FitsPool pool.now }
 {
     put_text(into, &pool.name);
     put_list_u16::<ShortNames>(pool.groups.as_slice(), into);
@@ -149,6 +154,8 @@ impl PutItem for Schedules {
 
     ghost Is = { λ self. IsSchedule };
 
+    ghost Fits = { λ self. FitsSchedule };
+
     fn put(&self, schedule: &Schedule, into: &mut Vec<u8>) {
         put_schedule(into, schedule)
     }
@@ -161,7 +168,8 @@ impl PutItem for Schedules {
 fn put_schedule(into: &mut Vec<u8>, schedule: &Schedule)
     requires allowed { IsSchedule schedule.now }
     requires room { HasRoom into.old (resource_text (resources.Schedule schedule.now)) }
-    ensures { Appends into.old into.new (resource_text (resources.Schedule schedule.now)) }
+    ensures text { Appends into.old into.new (resource_text (resources.Schedule schedule.now)) }
+    ensures fits { FitsSchedule schedule.now }
 {
     put_u8(into, resource_byte(ResourceKind::Schedule));
     put_schedule_fields(into, schedule);
@@ -170,7 +178,8 @@ fn put_schedule(into: &mut Vec<u8>, schedule: &Schedule)
 fn put_schedule_fields(into: &mut Vec<u8>, schedule: &Schedule)
     requires allowed { IsSchedule schedule.now }
     requires room { HasRoom into.old (fields_text (resources.Schedule schedule.now)) }
-    ensures { Appends into.old into.new (fields_text (resources.Schedule schedule.now)) }
+    ensures text { Appends into.old into.new (fields_text (resources.Schedule schedule.now)) }
+    ensures fits { FitsSchedule schedule.now }
 {
     put_text(into, &schedule.name);
     put_u8(into, period_byte(schedule.period));
