@@ -3,16 +3,14 @@ use Rattle.std.specs.Prelude.{◌≡◌, ℕ, Bool, List, Result, Ok, Err}
 use Rattle.catalog_text.specs.declared.fault.DecodeFault.{DecodeFault}
 use Rattle.catalog_text.specs.declared.fault.DecodeFault.TheVariants as faults
 use Rattle.snapshot_text.specs.Decoding.{StopsAtPlace}
-use Rattle.snapshot_text.specs.Snapshots.{snapshot_text}
-use Rattle.snapshot_reading.specs.Fits.{FitsCatalogue}
-use Rattle.snapshot_reading.specs.Spelled.{kept_in}
+use Rattle.snapshot_text.specs.Snapshots.{kept_in}
+use Rattle.snapshot_reading.specs.Spelled.{IsText}
 use Rattle.room_catalog.specs.Held.{HeldCatalogue, catalogue_of, no_parts}
 
 -- The bytes are the one spelling of this catalogue, in which no part waits; what is read without
 -- indexes has none.
 pub record IsReadTo (indexed : Bool) (bytes : List ℕ) (held : HeldCatalogue) : Type 0 where
-  pub text : bytes ≡ snapshot_text indexed (catalogue_of held.lists)
-  pub fits : FitsCatalogue (catalogue_of held.lists)
+  pub text : IsText indexed bytes (catalogue_of held.lists)
   pub kept : catalogue_of held.lists ≡ kept_in indexed (catalogue_of held.lists)
   pub parts : held.lists.parts ≡ no_parts
 

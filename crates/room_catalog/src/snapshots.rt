@@ -4,7 +4,10 @@ ghost use Rattle.std.specs.Prelude.{◌≡◌, length, IfOk};
 ghost use Rattle.std.specs.Io.Iter.{u64_saturate};
 ghost use Rattle.catalog_change.specs.Catalogues.{IsCatalogue};
 ghost use Rattle.catalog_text.specs.Writing.{Appends, HasRoom};
-ghost use Rattle.snapshot_text.specs.Snapshots.{catalogue_lent, catalogue_read, snapshot_text};
+ghost use Rattle.snapshot_text.specs.Fits.{FitsCatalogue};
+ghost use Rattle.snapshot_text.specs.Snapshots.{catalogue_lent, catalogue_read, kept_in};
+ghost use Rattle.snapshot_text.specs.Snapshots.{snapshot_text};
+ghost use Rattle.snapshot_reading.specs.Spelled.{IsText};
 ghost use Rattle.room_catalog.specs.Held.{catalogue_of, no_parts};
 ghost use Rattle.room_catalog.specs.Reading.{ReadsSnapshot};
 ghost use Rattle.room_catalog.specs.Views.{held_of};
@@ -25,8 +28,8 @@ impl Catalogue {
     /// All that the catalogue holds in its one spelling, with the indexes of save sets or without.
     /// Parts of an index that wait are not in it.
     pub fn snapshot(&self, alloc: Global, with_indexes: bool) -> Result<Vec<u8>, Memory>
-        ensures { IfOk result (λ bytes. bytes.items
-            ≡ snapshot_text with_indexes (catalogue_of self.now.lists)) }
+        ensures { IfOk result
+            (λ bytes. IsText with_indexes bytes.items (catalogue_of self.now.lists)) }
     {
         snapshot(alloc, &self.lent(), with_indexes)
     }
@@ -43,8 +46,9 @@ impl Catalogue {
     /// memory is taken.
     pub fn snapshot_into(&self, with_indexes: bool, into: &mut Vec<u8>)
         requires { HasRoom into.old (snapshot_text with_indexes (catalogue_of self.now.lists)) }
-        ensures { Appends into.old into.new
+        ensures text { Appends into.old into.new
             (snapshot_text with_indexes (catalogue_of self.now.lists)) }
+        ensures fits { FitsCatalogue (kept_in with_indexes (catalogue_of self.now.lists)) }
     {
         snapshot_into(&self.lent(), with_indexes, into);
     }
