@@ -1,0 +1,10 @@
+//! Requests of HTTP/1.x, read from a source of bytes one behind another, in whatever pieces the
+//! source gives. docs/http.md says which bytes are a request.
+#![tactic(auto)]
+
+mod fault;
+mod framing;
+mod request;
+
+pub use fault::RequestFault;
+pub use request::Request;
