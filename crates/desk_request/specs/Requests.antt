@@ -22,13 +22,13 @@ pub record IsRequest (bytes : List ℕ) (request : RequestText) : Type 0 where
   pub size : request.size ≡ length bytes
 
 -- no prefix of the bytes is a request
-abbrev pub HasNoRequest : List ℕ → Type 0
-HasNoRequest bytes = (front rest : List ℕ) (request : RequestText) → bytes ≡ front ++ rest
+abbrev pub HasNoFirst : List ℕ → Type 0
+HasNoFirst bytes = (front rest : List ℕ) (request : RequestText) → bytes ≡ front ++ rest
     → ¬ (IsRequest front request)
 
 -- there are bytes, and they begin no request
 abbrev pub BeginsNone : List ℕ → Type 0
-BeginsNone bytes = (bytes ≢ []) × HasNoRequest bytes
+BeginsNone bytes = (bytes ≢ []) × HasNoFirst bytes
 
 -- no bytes can follow that make a prefix a request
 abbrev pub NeverBegins : List ℕ → Type 0

@@ -4,6 +4,7 @@
 
 mod fault;
 mod framing;
+mod head;
 mod request;
 
 pub use fault::RequestFault;
