@@ -1,3 +1,4 @@
 pub mod Framing
+pub mod HeadEnds
 pub mod Heads
 pub mod Requests

@@ -5,6 +5,7 @@
 mod fault;
 mod framing;
 mod head;
+mod head_end;
 mod request;
 
 pub use fault::RequestFault;
