@@ -1,3 +1,4 @@
 pub mod Headers
 pub mod Finding
 pub mod Ending
+pub mod Filling

@@ -1,7 +1,7 @@
 //! Where a head may end: at an empty line behind a line that isn't empty. So a head that comes in
 //! small pieces is parsed once, and not at each of them.
 
-ghost use Rattle.std.specs.Prelude.{◌≡◌, ◌≤◌, ◌<◌, length, IsFalse};
+ghost use Rattle.std.specs.Prelude.{◌≡◌, ◌≤◌, ◌<◌, length, IsFalse, IsTrue};
 ghost use Rattle.desk_request.specs.HeadEnds.{before_return, is_head_end, EndsBy};
 
 #[tactic(auto, unfolding(crate::specs::HeadEnds::before_return))]
@@ -36,7 +36,8 @@ fn is_head_end(bytes: &[u8], at: usize) -> bool
 
 /// Whether a head at the front of the bytes may end behind the first `from` of them.
 pub fn may_end(bytes: &[u8], from: usize) -> bool
-    ensures { IsFalse result → EndsBy from bytes.now }
+    ensures none { IsFalse result → EndsBy from bytes.now }
+    ensures some { IsTrue result → from < length bytes.now }
 {
     for at in from..bytes.len() {
         if is_head_end(bytes, at) {

@@ -6,7 +6,9 @@ mod fault;
 mod framing;
 mod head;
 mod head_end;
+mod reading;
 mod request;
 
 pub use fault::RequestFault;
+pub use reading::read_request;
 pub use request::Request;

@@ -9,7 +9,7 @@ loop-at-preserved c =
     below_more (λ k. c.args.from ≤ k → is_head_end c.args.bytes.now k ≡ false) c.loop-at.at c.loop-at.invariant
     (λ low. sym c.is_head_end.ensures ∙ c.if-is_head_end.false)
 
-pub returns : goal.returns
-returns c = λ none.
+pub returns-clause-none : goal.returns-clause-none
+returns-clause-none c = λ none.
     ends_by c.args.bytes.now c.args.from
     (λ k within low. c.loop-at.invariant k (omega (arith, c.loop-at-test.false, within)) low)
