@@ -2,3 +2,4 @@ pub mod Headers
 pub mod Finding
 pub mod Ending
 pub mod Filling
+pub mod Searching
