@@ -3,3 +3,4 @@ pub mod Finding
 pub mod Ending
 pub mod Filling
 pub mod Searching
+pub mod Answering
