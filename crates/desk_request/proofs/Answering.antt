@@ -33,7 +33,7 @@ never_begins bytes some never = λ more. (
 )
 
 -- two lengths that the same headers announce
-one_length : (head : RequestHead) (one other : ℕ) → HasBody head one → HasBody head other → one ≡ other
+pub one_length : (head : RequestHead) (one other : ℕ) → HasBody head one → HasBody head other → one ≡ other
 one_length head one other first second =
     let same : Some one ≡ Some other = sym first.announced ∙ second.announced in cc
 

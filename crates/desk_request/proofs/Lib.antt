@@ -4,3 +4,4 @@ pub mod Ending
 pub mod Filling
 pub mod Searching
 pub mod Answering
+pub mod OneReading

@@ -6,9 +6,11 @@ mod fault;
 mod framing;
 mod head;
 mod head_end;
+mod laws;
 mod reading;
 mod request;
 
 pub use fault::RequestFault;
+pub use laws::requests_are_one;
 pub use reading::read_request;
 pub use request::Request;
