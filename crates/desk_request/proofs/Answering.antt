@@ -1,14 +1,14 @@
 -- What the bytes at hand are, by the head that was found and the body that was taken.
-use Rattle.std.proofs.Common.{◌≡◌, ◌≢◌, ℕ, ◌+◌, ◌<◌, ◌≤◌, ◌⊎◌, inl, inr, Bool, IsTrue, List, [], ◌++◌, length, drop, string_bytes, Option, Some, None, Result, Ok, Err, refl, sym, ap, subst, ◌∙◌, arith, append_assoc, append-nil, length-append}
+use Rattle.std.proofs.Common.{◌≡◌, ◌≢◌, ℕ, ◌+◌, ◌<◌, inl, inr, IsTrue, List, [], ◌++◌, length, drop, string_bytes, Some, Ok, Err, sym, ap, subst, ◌∙◌, arith, append_assoc, append-nil, length-append}
 use Rattle.std.proofs.lemmas.List.{nil_from_length}
 use Rattle.httparse.specs.Grammar.{RequestHead, ReadsRequest, print_request}
 use Rattle.httparse.proofs.GrammarLemmas.{request_unique, ReadsRequest-append}
 use Rattle.room_base.specs.Outside.{SourceView, Told}
-use Rattle.desk_request.specs.Framing.{HasBody, body_length, headers_of}
+use Rattle.desk_request.specs.Framing.{HasBody}
 use Rattle.desk_request.specs.Heads.{BeginsWith, HasNoHead, NeverHasHead}
-use Rattle.desk_request.specs.Requests.{RequestText, IsRequest, HasNoFirst, BeginsNone, NeverBegins}
-use Rattle.desk_request.specs.Reading.{Took, Reads, ReadsOne, IsFront}
-use Rattle.desk_request.specs.Steps.{HasEnded, ReadsHead, ReadsBody, GivesBody}
+use Rattle.desk_request.specs.Requests.{RequestText, HasNoFirst, BeginsNone, NeverBegins}
+use Rattle.desk_request.specs.Reading.{Took, ReadsOne, IsFront}
+use Rattle.desk_request.specs.Steps.{ReadsHead, ReadsBody}
 use Rattle.desk_request.specs.declared.head.Head.{Head}
 use Rattle.desk_request.specs.declared.fault.RequestFault.{RequestFault}
 use Rattle.desk_request.specs.declared.fault.RequestFault.TheVariants.{Bad, ReadFault, Memory}
@@ -19,8 +19,8 @@ use Rattle.desk_request.proofs.Searching.{head_has_bytes}
 pub none_first : (bytes : List ℕ) → HasNoHead bytes → HasNoFirst bytes
 none_first bytes none = λ front rest request is there.
     let reads : ReadsRequest bytes there.head (request.body ++ rest) =
-        subst (λ (b : List ℕ). ReadsRequest b there.head (request.body ++ rest)) (sym is)
-        (ReadsRequest-append front there.head request.body rest there.reads) in
+    subst (λ (b : List ℕ). ReadsRequest b there.head (request.body ++ rest)) (sym is)
+    (ReadsRequest-append front there.head request.body rest there.reads) in
     none there.head (request.body ++ rest) (length request.body) reads there.framed
 
 pub begins_none : (bytes : List ℕ) → bytes ≢ [] → HasNoHead bytes → BeginsNone bytes
@@ -42,18 +42,24 @@ pub body_cut : (bytes more : List ℕ) (found : Head) → BeginsWith bytes found
     → HasNoFirst (bytes ++ more)
 body_cut bytes more found begins cut = λ front rest request is there.
     let reads : ReadsRequest (bytes ++ more) there.head (request.body ++ rest) =
-        subst (λ (b : List ℕ). ReadsRequest b there.head (request.body ++ rest)) (sym is)
-        (ReadsRequest-append front there.head request.body rest there.reads) in
+    subst (λ (b : List ℕ). ReadsRequest b there.head (request.body ++ rest)) (sym is)
+    (ReadsRequest-append front there.head request.body rest there.reads) in
     let same = request_unique (bytes ++ more) there.head begins.head (request.body ++ rest) (drop found.len bytes ++ more) reads
-        (ReadsRequest-append bytes begins.head (drop found.len bytes) more begins.reads) in
+    (ReadsRequest-append bytes begins.head (drop found.len bytes) more begins.reads) in
     let long = one_length begins.head (length request.body) found.body (subst (λ (h : RequestHead). HasBody h (length request.body)) same.0 there.framed) begins.framed in
     absurd (omega (arith, cut, long, ap length same.1, length-append request.body rest))
 
 -- a head has bytes
 pub begins_some : (bytes more : List ℕ) (found : Head) → BeginsWith bytes found → (bytes ++ more) ≢ []
 begins_some bytes more found begins = λ none.
-    absurd (omega (arith, head_has_bytes begins.head begins.reads.0, ap length begins.reads.1, ap length none, length-append bytes more,
-    length-append (print_request begins.head) (drop found.len bytes)))
+    absurd (omega (
+      arith,
+      head_has_bytes begins.head begins.reads.0,
+      ap length begins.reads.1,
+      ap length none,
+      length-append bytes more,
+      length-append (print_request begins.head) (drop found.len bytes),
+    ))
 
 -- the buffer has all the bytes at hand
 whole_front : (before after more : List ℕ) → after ≡ before ++ more → IsFront after (before ++ more)

@@ -1,12 +1,12 @@
 -- A head ends at an empty line behind a line that isn't empty.
-use Rattle.std.proofs.Common.{◌≡◌, ℕ, ◌+◌, ◌-◌, ◌<◌, ◌≤◌, ◌≢◌, Bool, true, false, List, [], ◌∷◌, ◌++◌, length, get_or, All, IsTrue, refl, sym, ap, ◌∙◌, arith, append_assoc, append-nil, length-append}
+use Rattle.std.proofs.Common.{◌≡◌, ℕ, ◌+◌, ◌-◌, ◌<◌, ◌≤◌, ◌≢◌, true, false, List, [], ◌∷◌, ◌++◌, length, get_or, All, IsTrue, refl, sym, ap, ◌∙◌, arith, append_assoc, append-nil, length-append}
 use Rattle.std.proofs.lemmas.Bool.{false≢true}
 use Rattle.std.proofs.lemmas.Bool.Decides.{nat_tests}
 use Rattle.std.proofs.lemmas.List.{get_or-append-add}
 use Rattle.std.proofs.lemmas.List.Elements.{All-head, All-tail}
 use Rattle.std.specs.Prelude.{codes, nat_lt}
 use Rattle.std.specs.List.{flat_map}
-use Rattle.httparse.specs.Grammar.{RequestHead, ReadsRequest, IsRequestHead, print_request, LineEnd, crlf, lf, print_end, Field, IsField, print_field, print_section, print_version, print_blank, is_value_byte, AllPass}
+use Rattle.httparse.specs.Grammar.{RequestHead, IsRequestHead, print_request, LineEnd, crlf, lf, print_end, Field, IsField, print_field, print_section, print_blank, is_value_byte, AllPass}
 use Rattle.httparse.specs.Ascii.{colon}
 use Rattle.httparse.proofs.GrammarLemmas.{print_request-append, cons-append}
 use Rattle.desk_request.specs.HeadEnds.{is_content, before_return, is_head_end, EndsBy}
@@ -44,9 +44,9 @@ field_regrouped : (front : List ℕ) (byte : ℕ) (end name raw line : List ℕ)
 field_regrouped front byte end name raw line next field_end fields last is =
     let behind = field_end ++ (fields ++ last) in
     let opened : front ++ byte ∷ (end ++ (((name ++ colon ∷ raw ++ field_end) ++ fields) ++ last))
-        ≡ front ++ byte ∷ (end ++ (name ++ ((colon ∷ raw) ++ behind))) = simp (append_assoc, cons-append) in
+    ≡ front ++ byte ∷ (end ++ (name ++ ((colon ∷ raw) ++ behind))) = simp (append_assoc, cons-append) in
     let closed : front ++ byte ∷ (end ++ (name ++ ((line ++ next ∷ []) ++ behind)))
-        ≡ (front ++ byte ∷ (end ++ (name ++ line))) ++ next ∷ behind = simp (append_assoc, cons-append) in
+    ≡ (front ++ byte ∷ (end ++ (name ++ line))) ++ next ∷ behind = simp (append_assoc, cons-append) in
     opened ∙ ap (λ content. front ++ byte ∷ (end ++ (name ++ (content ++ behind)))) is ∙ closed
 
 line_regrouped : (blank method target : List ℕ) (digit : ℕ) (end section : List ℕ)
@@ -63,8 +63,13 @@ section_ends front byte end (field ∷ fields) last content valid =
     let line = content_last colon field.raw refl is.raw in
     let behind = front ++ byte ∷ (print_end end ++ (field.name ++ line.front)) in
     let there = section_ends behind line.byte field.end fields last line.content (All-tail IsField field fields valid) in
-    record { front = there.front; byte = there.byte; end = there.end; content = there.content;
-      are = field_regrouped front byte (print_end end) field.name field.raw line.front line.byte (print_end field.end) (flat_map print_field fields) (print_end last) line.are ∙ there.are }
+    record {
+      front = there.front;
+      byte = there.byte;
+      end = there.end;
+      content = there.content;
+      are = field_regrouped front byte (print_end end) field.name field.raw line.front line.byte (print_end field.end) (flat_map print_field fields) (print_end last) line.are ∙ there.are;
+    }
 
 -- a request head
 pub head_ends : (head : RequestHead) → IsRequestHead head → EndsIn (print_request head) head.last
@@ -167,7 +172,7 @@ ends_by bytes from none = λ head rest reads.
     let are : bytes ≡ there.front ++ (tail ++ rest) = reads.1 ∙ ap (λ front. front ++ rest) there.are ∙ append_assoc there.front tail rest in
     let at = length (print_request head) - 1 in
     let low : from < length (print_request head) → length (print_request head) ≤ from = λ below.
-        let seen = end_is_seen there.front there.byte there.end head.last rest at there.content (omega (arith, long, below)) in
-        let within : at < length bytes = omega (arith, below, ap length reads.1, length-append (print_request head) rest) in
-        absurd (false≢true (sym (none at within (omega (arith, below))) ∙ ap (λ b. is_head_end b at) are ∙ seen)) in
+    let seen = end_is_seen there.front there.byte there.end head.last rest at there.content (omega (arith, long, below)) in
+    let within : at < length bytes = omega (arith, below, ap length reads.1, length-append (print_request head) rest) in
+    absurd (false≢true (sym (none at within (omega (arith, below))) ∙ ap (λ b. is_head_end b at) are ∙ seen)) in
     not_over from (length (print_request head)) low

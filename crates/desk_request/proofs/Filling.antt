@@ -1,7 +1,7 @@
 -- Bytes that are taken behind others.
-use Rattle.std.proofs.Common.{◌≡◌, ℕ, ◌+◌, ◌-◌, ◌≤◌, ◌<◌, inl, inr, List, [], ◌++◌, length, take, drop, min, refl, sym, ap, ◌∙◌, arith, append_assoc, append-nil, length-append, take-append-drop}
+use Rattle.std.proofs.Common.{◌≡◌, ℕ, ◌+◌, ◌-◌, ◌≤◌, ◌<◌, inl, inr, List, [], ◌++◌, length, take, drop, min, sym, ap, ◌∙◌, arith, append_assoc, append-nil, length-append, take-append-drop}
 use Rattle.std.proofs.lemmas.Bool.{cases_lt}
-use Rattle.std.proofs.lemmas.List.{length-drop, length-take-le, take_all, take-take, take-append-le, drop_all, nil_from_length}
+use Rattle.std.proofs.lemmas.List.{length-drop, take_all, take-take, take-append-le, drop_all, nil_from_length}
 use Rattle.std.proofs.Math.Seq.{take-append-add, take-append_seam, drop-nil}
 use Rattle.room_base.specs.Outside.{SourceView, Moves}
 use Rattle.desk_request.specs.Reading.{Took}
@@ -45,7 +45,7 @@ pub piece_added : (buffer resized front into behind after room : List ℕ) (had 
     → after ≡ take (had + count) (take whole ((front ++ into) ++ behind)) → after ≡ buffer ++ take count into
 piece_added buffer resized front into behind after room had count size whole has wide resized_is front_is is within fits after_is =
     let same : front ≡ buffer =
-        front_is ∙ ap (take had) resized_is ∙ ap (λ n. take n (take size buffer ++ room)) has ∙ room_front buffer room size (omega (arith, has, wide)) in
+    front_is ∙ ap (take had) resized_is ∙ ap (λ n. take n (take size buffer ++ room)) has ∙ room_front buffer room size (omega (arith, has, wide)) in
     after_is ∙ piece_kept front into behind had count whole is within fits ∙ ap (λ bytes. bytes ++ take count into) same
 
 -- one take more into a list
@@ -60,16 +60,16 @@ pub body_given : (there more body : List ℕ) (had count : ℕ) → had ≡ min 
     → body ≡ take had there ++ more → there ++ more ≡ body ++ drop had there
 body_given there more body had count is enough body_is =
     let whole : body ++ drop had there ≡ take had there ++ (more ++ drop had there) =
-        ap (λ bytes. bytes ++ drop had there) body_is ∙ append_assoc (take had there) more (drop had there) in
+    ap (λ bytes. bytes ++ drop had there) body_is ∙ append_assoc (take had there) more (drop had there) in
     elim (cases_lt had (length there)) [
       | inl over ↦
           let none : more ≡ [] = nil_from_length more (omega (arith, over, is, enough)) in
           ap (λ bytes. there ++ bytes) none ∙ append-nil there ∙ sym (take-append-drop had there)
-              ∙ ap (λ bytes. take had there ++ (bytes ++ drop had there)) (sym none) ∙ sym whole
+          ∙ ap (λ bytes. take had there ++ (bytes ++ drop had there)) (sym none) ∙ sym whole
       | inr all ↦
           let rest : drop had there ≡ [] = drop_all had there all in
           ap (λ bytes. bytes ++ more) (sym (take_all had there all)) ∙ ap (λ bytes. take had there ++ bytes) (sym (append-nil more))
-              ∙ ap (λ bytes. take had there ++ (more ++ bytes)) (sym rest) ∙ sym whole
+          ∙ ap (λ bytes. take had there ++ (more ++ bytes)) (sym rest) ∙ sym whole
     ]
 
 -- a list whose items were written keeps all of them

@@ -1,5 +1,5 @@
 -- A head that was found, and heads that are none of a request.
-use Rattle.std.proofs.Common.{◌≡◌, ℕ, ◌<◌, ◌≤◌, List, ◌++◌, length, map, take, drop, take-append-drop, length-append, ◌∙◌, All, IsTrue, ap, IsUtf8, sym, subst, arith}
+use Rattle.std.proofs.Common.{◌≡◌, ℕ, ◌<◌, ◌≤◌, List, ◌++◌, length, map, take, drop, take-append-drop, length-append, ◌∙◌, IsTrue, ap, IsUtf8, sym, subst, arith}
 use Rattle.std.proofs.lemmas.Bool.Decides.{nat_tests}
 use Rattle.std.proofs.lemmas.List.{length-map, length-take, take-append-le}
 use Rattle.std.proofs.Math.Seq.{take-append_seam}
@@ -45,7 +45,7 @@ pub reads_within : (front more : List ℕ) (head : RequestHead) (rest : List ℕ
 reads_within front more head rest reads short =
     let size = length (print_request head) in
     let same : take size front ≡ print_request head =
-        sym (take-append-le size front more short) ∙ ap (take size) reads.1 ∙ take-append_seam (print_request head) rest in
+    sym (take-append-le size front more short) ∙ ap (take size) reads.1 ∙ take-append_seam (print_request head) rest in
     (reads.0, sym (take-append-drop size front) ∙ ap (λ bytes. bytes ++ drop size front) same)
 
 -- no head is there, where the first bytes have none and none ends behind them

@@ -1,9 +1,8 @@
 -- Headers that are looked for, and the number that digits write.
-use Rattle.std.proofs.Common.{◌≡◌, ℕ, ◌+◌, ◌*◌, ◌-◌, ◌<◌, ◌≤◌, ◌^◌, Bool, true, ◌||◌, List, [], ◌∷◌, ◌++◌, length, map, take, drop, get_or, filter, cond, suc, Option, None, Some, take-append-drop, drop-cons, refl, sym, ap, ◌∙◌, arith}
+use Rattle.std.proofs.Common.{◌≡◌, ℕ, ◌-◌, ◌<◌, ◌≤◌, Bool, true, ◌||◌, List, [], ◌∷◌, ◌++◌, length, map, take, drop, get_or, filter, cond, suc, Option, None, Some, take-append-drop, drop-cons, refl, sym, ap, ◌∙◌, arith}
 use Rattle.std.specs.Prelude.{option_to_list, option_map, is_some}
-use Rattle.std.specs.List.{list_any, list_all}
+use Rattle.std.specs.List.{list_any}
 use Rattle.std.specs.Char.{is_ascii_digit, digit_value}
-use Rattle.std.specs.Str.Parse.{digits_value_after}
 use Rattle.std.proofs.lemmas.Bool.Decides.{nat_tests}
 use Rattle.std.proofs.lemmas.List.{map-append}
 use Rattle.std.proofs.lemmas.List.Elements.{filter-append}
@@ -39,12 +38,12 @@ two_values name f xs i d value below one named =
     let x = get_or xs i d in
     let rest = drop (suc i) xs in
     let split : map f xs ≡ map f (take i xs) ++ (f x ∷ map f rest) =
-        ap (map f) (sym (take-append-drop i xs)) ∙ map-append f (take i xs) (drop i xs)
-        ∙ ap (λ ys. map f (take i xs) ++ map f ys) (drop-cons xs i d below) in
+    ap (map f) (sym (take-append-drop i xs)) ∙ map-append f (take i xs) (drop i xs)
+    ∙ ap (λ ys. map f (take i xs) ++ map f ys) (drop-cons xs i d below) in
     let all : values_named name (map f xs) ≡ value ∷ ((f x).1 ∷ values_named name (map f rest)) =
-        ap (values_named name) split ∙ values_named-append name (map f (take i xs)) (f x ∷ map f rest)
-        ∙ ap (λ ys. ys ++ values_named name (f x ∷ map f rest)) one
-        ∙ ap (λ ys. value ∷ ys) (values_named_first name (f x) (map f rest) named) in
+    ap (values_named name) split ∙ values_named-append name (map f (take i xs)) (f x ∷ map f rest)
+    ∙ ap (λ ys. ys ++ values_named name (f x ∷ map f rest)) one
+    ∙ ap (λ ys. value ∷ ys) (values_named_first name (f x) (map f rest) named) in
     ap length_by all
 
 -- the same, where the first is known as one that was found

@@ -1,10 +1,10 @@
 -- Bytes have at most one prefix that is a request.
-use Rattle.std.proofs.Common.{◌≡◌, ◌≢◌, ℕ, ◌+◌, ◌<◌, List, [], ◌∷◌, ◌++◌, length, take, drop, Option, Some, None, refl, sym, ap, subst, ◌∙◌, arith, length-append}
+use Rattle.std.proofs.Common.{◌≡◌, ◌≢◌, ℕ, ◌+◌, List, [], ◌∷◌, ◌++◌, length, take, drop, Option, Some, None, refl, sym, ap, subst, ◌∙◌, arith, length-append}
 use Rattle.std.proofs.Math.Seq.{take-append_seam, drop-append_seam}
 use Rattle.httparse.specs.Grammar.{RequestHead, ReadsRequest, print_request}
 use Rattle.httparse.proofs.GrammarLemmas.{request_unique, ReadsRequest-append}
 use Rattle.desk_request.specs.Framing.{HasBody, headers_of, says_close}
-use Rattle.desk_request.specs.Requests.{RequestText, IsRequest, HasNoFirst, BeginsNone, RequestsFrom}
+use Rattle.desk_request.specs.Requests.{RequestText, IsRequest, RequestsFrom}
 use Rattle.desk_request.proofs.Answering.{one_length}
 use Rattle.desk_request.proofs.Searching.{head_has_bytes}
 
@@ -20,14 +20,14 @@ pub first_is_one : (front after other rest : List ℕ) (request another : Reques
     → IsRequest front request → IsRequest other another → (front ≡ other) × (request ≡ another) × (after ≡ rest)
 first_is_one front after other rest request another same one two =
     let reads : ReadsRequest (other ++ rest) one.head (request.body ++ after) =
-        subst (λ (b : List ℕ). ReadsRequest b one.head (request.body ++ after)) same (ReadsRequest-append front one.head request.body after one.reads) in
+    subst (λ (b : List ℕ). ReadsRequest b one.head (request.body ++ after)) same (ReadsRequest-append front one.head request.body after one.reads) in
     let heads = request_unique (other ++ rest) one.head two.head (request.body ++ after) (another.body ++ rest) reads
-        (ReadsRequest-append other two.head another.body rest two.reads) in
+    (ReadsRequest-append other two.head another.body rest two.reads) in
     let framed : HasBody two.head (length request.body) = subst (λ (h : RequestHead). HasBody h (length request.body)) heads.0 one.framed in
     let long = one_length two.head (length request.body) (length another.body) framed two.framed in
     let bodies = same_fronts request.body after another.body rest heads.1 long in
     let fronts : front ≡ other =
-        one.reads.1 ∙ ap (λ h. print_request h ++ request.body) heads.0 ∙ ap (λ b. print_request two.head ++ b) bodies.0 ∙ sym two.reads.1 in
+    one.reads.1 ∙ ap (λ h. print_request h ++ request.body) heads.0 ∙ ap (λ b. print_request two.head ++ b) bodies.0 ∙ sym two.reads.1 in
     let method : request.method ≡ another.method = one.method ∙ ap (λ (h : RequestHead). h.method) heads.0 ∙ sym two.method in
     let target : request.target ≡ another.target = one.target ∙ ap (λ (h : RequestHead). h.target) heads.0 ∙ sym two.target in
     let close : request.close ≡ another.close = one.close ∙ ap (λ (h : RequestHead). says_close (headers_of h)) heads.0 ∙ sym two.close in
@@ -40,8 +40,14 @@ first_is_one front after other rest request another same one two =
 -- a request has bytes
 request_has_bytes : (front rest : List ℕ) (request : RequestText) → IsRequest front request → (front ++ rest) ≢ []
 request_has_bytes front rest request one = λ none.
-    absurd (omega (arith, head_has_bytes one.head one.reads.0, ap length one.reads.1, ap length none, length-append front rest,
-    length-append (print_request one.head) request.body))
+    absurd (omega (
+      arith,
+      head_has_bytes one.head one.reads.0,
+      ap length one.reads.1,
+      ap length none,
+      length-append front rest,
+      length-append (print_request one.head) request.body,
+    ))
 
 -- bytes that end or begin no request have none in front
 ends_without : (at : ℕ) (bytes front rest : List ℕ) (bad : Option ℕ) (request : RequestText) → RequestsFrom at bytes [] bad → bytes ≡ front ++ rest

@@ -1,13 +1,12 @@
 -- Bytes that are taken until they begin with a head.
-use Rattle.std.proofs.Common.{◌≡◌, ◌≢◌, ℕ, ◌<◌, ◌≤◌, inl, inr, List, [], ◌∷◌, ◌++◌, length, take, Option, Some, None, Result, Ok, Err, refl, sym, ap, subst, ◌∙◌, arith, append-nil, length-append}
+use Rattle.std.proofs.Common.{◌≡◌, ◌≢◌, ℕ, ◌<◌, inl, List, [], ◌∷◌, ◌++◌, length, take, Option, None, Ok, Err, refl, sym, ap, subst, ◌∙◌, arith, append-nil, length-append}
 use Rattle.std.proofs.lemmas.List.{nil_from_length}
 use Rattle.std.proofs.Math.Seq.{take-append_seam}
-use Rattle.httparse.specs.Grammar.{RequestHead, ReadsRequest, IsRequestHead, print_request, print_end}
+use Rattle.httparse.specs.Grammar.{RequestHead, IsRequestHead, print_request, print_end}
 use Rattle.room_base.specs.Outside.{SourceView, Told}
-use Rattle.desk_request.specs.Framing.{HasBody}
 use Rattle.desk_request.specs.Heads.{HasNoHead, NeverHasHead, FindsHead}
 use Rattle.desk_request.specs.Reading.{Took}
-use Rattle.desk_request.specs.Steps.{HasEnded, TakesPiece, ReadsHead, FindsFirst}
+use Rattle.desk_request.specs.Steps.{ReadsHead}
 use Rattle.desk_request.specs.declared.head.Head.{Head}
 use Rattle.desk_request.specs.declared.fault.RequestFault.{RequestFault}
 use Rattle.desk_request.specs.declared.fault.RequestFault.TheVariants.{Bad, ReadFault, Memory}

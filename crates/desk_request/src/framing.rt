@@ -51,9 +51,7 @@ fn has_named(bytes: &[u8], headers: &[HeaderSpan], name: &[u8]) -> bool
     ensures { result ≡ list_any (λ header. is_named name.now (header_bytes bytes.now header))
         headers.now }
 {
-    headers
-        .iter()
-        .any(|header| is_named(bytes, header, name))
+    headers.iter().any(|header| is_named(bytes, header, name))
 }
 
 // The number that digits write, at most 7 of them.

@@ -14,3 +14,6 @@ pub use fault::RequestFault;
 pub use laws::requests_are_one;
 pub use reading::read_request;
 pub use request::Request;
+
+#[cfg(test)]
+mod tests;

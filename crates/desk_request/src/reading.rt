@@ -39,13 +39,7 @@ pub fn read_request<S: Source>(
     };
     let body = read_body(alloc, source, buffer, head.len, head.body)?;
     let size = (head.len + head.body) as u64;
-    Ok(Some(Request::new(
-        head.method,
-        head.target,
-        head.close,
-        body,
-        size,
-    )))
+    Ok(Some(Request::new(head.method, head.target, head.close, body, size)))
 }
 
 // Takes bytes behind those in the buffer until these begin with the head of a request, or can't.

@@ -1,4 +1,5 @@
-ghost use Rattle.std.specs.Prelude.{◌≡◌, string_bytes};
+ghost use Rattle.std.specs.Prelude.{◌≡◌, ◌≤◌, ◌+◌, string_bytes, vec_len};
+ghost use Rattle.desk_request.specs.Framing.{max_head, max_body};
 
 use std::marker::Model;
 
@@ -25,11 +26,19 @@ impl Model for Request {
       body = request.body.items;
       size = request.size;
     } };
+
+    ghost use Rattle.std.specs.Prelude.{◌≤◌, ◌+◌, vec_len};
+    ghost use Rattle.desk_request.specs.Framing.{max_head, max_body};
+
+    ghost invariant = { λ request. (vec_len request.body ≤ max_body)
+        × (request.size ≤ max_head + max_body) };
 }
 
 impl Request {
     /// `size` is the number of the request's bytes, those of its head too. Takes no memory.
     pub fn new(method: String, target: String, close: bool, body: Vec<u8>, size: u64) -> Request
+        requires small { vec_len body ≤ max_body }
+        requires limited { size ≤ max_head + max_body }
         ensures { result ≡ record {
           method = string_bytes method;
           target = string_bytes target;

@@ -1,7 +1,6 @@
-use Rattle.std.proofs.Common.{◌≡◌, ◌≤◌, ◌∙◌, ℕ, List, length, map, take, Option, Some, None, IsUtf8, drop, sym, ap, subst, refl, arith}
-use Rattle.httparse.specs.Grammar.{RequestHead, ReadsRequest, print_request}
-use Rattle.httparse.specs.Spans.{IsRequestAt, header_bytes}
-use Rattle.desk_request.specs.Framing.{HasBody, body_length, headers_of, is_close, says_close}
+use Rattle.std.proofs.Common.{◌≡◌, ◌∙◌, take, None, IsUtf8, sym, ap, subst, arith}
+use Rattle.httparse.specs.Spans.{header_bytes}
+use Rattle.desk_request.specs.Framing.{body_length, headers_of, is_close, says_close}
 use Rattle.desk_request.proofs.Finding.{never_of_head, token_text, fields_few}
 use Rattle.desk_request.proofs.Headers.{any_of_map}
 use Rattle.desk_request.proofs.head.judge.Goals as goal
@@ -17,7 +16,7 @@ returns-in_default c =
     let at = c.requires.read.1 in
     never_of_head c.args.bytes.now c.requires.read.0 _ at.reads
     (λ count framed. (let none : None ≡ body_length (headers_of c.requires.read.0) =
-        sym c.in_default.is ∙ c.body_length.ensures ∙ ap body_length at.fields in
+    sym c.in_default.is ∙ c.body_length.ensures ∙ ap body_length at.fields in
     cc framed.announced))
 
 pub text_of-requires : goal.text_of-requires

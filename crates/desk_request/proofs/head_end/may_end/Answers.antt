@@ -1,4 +1,4 @@
-use Rattle.std.proofs.Common.{◌≡◌, ◌≤◌, ◌∙◌, ℕ, false, length, sym, arith}
+use Rattle.std.proofs.Common.{◌≡◌, ◌≤◌, ◌∙◌, false, sym, arith}
 use borrow.Author.Count.{below_more}
 use Rattle.desk_request.specs.HeadEnds.{is_head_end}
 use Rattle.desk_request.proofs.Ending.{ends_by}

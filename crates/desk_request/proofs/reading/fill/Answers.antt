@@ -1,4 +1,4 @@
-use Rattle.std.proofs.Common.{◌≡◌, ◌≤◌, ◌∙◌, ◌+◌, ◌++◌, length, take, ap, sym, arith, length-append}
+use Rattle.std.proofs.Common.{◌≤◌, ◌∙◌, ◌++◌, length, take, arith, length-append}
 use Rattle.std.proofs.lemmas.List.{length-take-le}
 use Rattle.desk_request.proofs.Filling.{took_of_moves, took_then, filled_more}
 use Rattle.desk_request.proofs.reading.fill.Goals as goal

@@ -1,4 +1,4 @@
-use Rattle.std.proofs.Common.{◌≡◌, ◌≤◌, ◌∙◌, ◌+◌, ◌-◌, ◌++◌, List, ℕ, length, min, take, drop, ap, sym, arith, length-append}
+use Rattle.std.proofs.Common.{◌≡◌, ◌∙◌, ◌+◌, ◌-◌, ◌++◌, length, min, take, drop, ap, sym, arith}
 use Rattle.std.proofs.lemmas.List.{drop-drop, take_all}
 use Rattle.desk_request.proofs.Filling.{body_given, written, from_place}
 use Rattle.desk_request.proofs.reading.read_body.Goals as goal
@@ -21,8 +21,8 @@ returns-clause-body g c =
     let behind : take (length c.deref.result.now - at) (drop at c.deref.result.now) ≡ there = from_place c.deref.result.now before at c.deref.ensures.value in
     let enough : length more ≡ len - had = omega (arith, fills.fills, ap length given, long) in
     let is : body ≡ take had there ++ more =
-        sym (take_all (had + length more) body (omega (arith, same, enough))) ∙ fills.filled
-        ∙ ap (λ bytes. bytes ++ more) (ap (take had) given ∙ c.copy_front-had.ensures.copied ∙ ap (take had) behind) in
+    sym (take_all (had + length more) body (omega (arith, same, enough))) ∙ fills.filled
+    ∙ ap (λ bytes. bytes ++ more) (ap (take had) given ∙ c.copy_front-had.ensures.copied ∙ ap (take had) behind) in
     let after : c.remove_front.new.list.items ≡ drop had there = c.remove_front.ensures ∙ sym (drop-drop had at before) in
     record {
       more = more;

@@ -1,9 +1,7 @@
-use Rattle.std.proofs.Common.{◌≡◌, ◌≢◌, ◌≤◌, ◌∙◌, ◌++◌, ℕ, ◌<◌, Bool, false, ◌==◌, Vec, Global, vec_len, List, [], None, Ok, Err, length, inl, inr, refl, sym, ap, subst, arith, append_assoc, append-nil}
-use Rattle.std.proofs.lemmas.List.{nil_from_length}
+use Rattle.std.proofs.Common.{◌≡◌, ◌≢◌, ◌≤◌, ◌∙◌, ◌++◌, ℕ, ◌<◌, Bool, false, ◌==◌, Vec, Global, vec_len, List, [], Err, length, inl, inr, refl, sym, ap, subst, arith, append_assoc, append-nil}
 use borrow.Author.Tests.{eqb-false}
 use Rattle.std.proofs.lemmas.Result.{err_from_is_err_and}
-use Rattle.desk_request.specs.Heads.{HasNoHead, FindsHead}
-use Rattle.desk_request.specs.Steps.{ReadsHead, HasEnded}
+use Rattle.desk_request.specs.Heads.{FindsHead}
 use Rattle.desk_request.proofs.Finding.{never_of_long}
 use Rattle.desk_request.proofs.Searching.{none_of_nothing, has_bytes, took_none, search_failed, piece_more, searched_stays, none_found, none_added}
 use Rattle.desk_request.proofs.reading.read_head.Goals as goal
@@ -36,7 +34,7 @@ returns-in_err-head-clause-read g c =
     (omega (arith, c.in_err-head.ensures.some, ap length c.deref.ensures.value)))
 
 pub returns-then-len-ge-MAX_HEAD-clause-read : goal.returns-then-len-ge-MAX_HEAD-clause-read
-returns-then-len-ge-MAX_HEAD-clause-read g c = 
+returns-then-len-ge-MAX_HEAD-clause-read g c =
     let so_far = c.pieces.invariant in
     let bytes = c.pieces.buffer.items in
     let none = none_found c.deref.result.now bytes c.in_ok-head.field-0 c.in_default.is c.deref.ensures.value c.in_ok-head.ensures.found in
@@ -58,8 +56,11 @@ returns-else-is_empty-clause-read g c =
       added = piece.added ∙ ap (λ bytes. bytes ++ piece.more) so_far.added ∙ append_assoc c.args.buffer.now.items so_far.more piece.more;
       took = piece_more (g.S.Source.view c.args.source.now) (g.S.Source.view c.pieces.source) (g.S.Source.view c.take_piece.new.source) so_far.more piece.more
           so_far.tells so_far.took piece.took;
-      finds = (has_bytes c.take_piece.new.buffer.items (some_items c.take_piece.new.buffer c.is_empty.result c.is_empty.ensures c.if-is_empty.false),
-          none_added c.pieces.buffer.items c.take_piece.new.buffer.items piece.more piece.added (sym c.if-branch-eq0.true ∙ piece.adds.0) none, inr (piece.adds.1 c.if-branch-eq0.true));
+      finds = (
+        has_bytes c.take_piece.new.buffer.items (some_items c.take_piece.new.buffer c.is_empty.result c.is_empty.ensures c.if-is_empty.false),
+        none_added c.pieces.buffer.items c.take_piece.new.buffer.items piece.more piece.added (sym c.if-branch-eq0.true ∙ piece.adds.0) none,
+        inr (piece.adds.1 c.if-branch-eq0.true),
+      );
     }
 
 pub pieces-preserved : goal.pieces-preserved

@@ -1,4 +1,4 @@
-use Rattle.std.proofs.Common.{◌≡◌, ◌∙◌, Option, Some, Ok, List, ℕ, sym, subst}
+use Rattle.std.proofs.Common.{◌≡◌, Option, Some, Ok, List, ℕ, subst}
 use Rattle.std.proofs.lemmas.Result.{err_from_is_err_and}
 use Rattle.room_base.specs.Outside.{SourceView}
 use Rattle.desk_request.specs.Heads.{BeginsWith}

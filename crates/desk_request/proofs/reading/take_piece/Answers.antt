@@ -1,5 +1,5 @@
-use Rattle.std.proofs.Common.{◌≡◌, ◌≤◌, ◌<◌, ◌∙◌, ◌+◌, ◌++◌, length, take, ap, sym, arith}
-use Rattle.std.proofs.lemmas.List.{length-take-le, nil_from_length}
+use Rattle.std.proofs.Common.{◌≡◌, ◌≤◌, ◌<◌, ◌∙◌, ◌+◌, length, take, sym, arith}
+use Rattle.std.proofs.lemmas.List.{length-take-le}
 use Rattle.room_base.specs.Outside.{Moves}
 use Rattle.desk_request.proofs.Filling.{took_of_moves, piece_added, none_left}
 use Rattle.desk_request.proofs.reading.take_piece.Goals as goal
@@ -24,7 +24,10 @@ returns-in-Ok-clause-piece g c =
           piece_added buffer.items c.deref_mut.result.now split.result.0.now into _ _ _ had count c.min.result _ has (omega (arith, more))
           (c.deref_mut.ensures.value ∙ resized.items) split.ensures.front split.ensures.front_len within (omega (arith, wide, within, resized.len)) c.truncate.ensures.items;
       took = λ told. took_of_moves old new into count (c.in-Ok.ensures.moved told);
-      adds = (sym (length-take-le count into within), λ none told.
-          (let moves : Moves old new into count = c.in-Ok.ensures.moved (rw (sym c.in-Ok.ensures.tells) told) in
-          none_left old new into count moves none (omega (arith, wide, more))));
+      adds = (
+        sym (length-take-le count into within),
+        λ none told.
+            (let moves : Moves old new into count = c.in-Ok.ensures.moved (rw (sym c.in-Ok.ensures.tells) told) in
+            none_left old new into count moves none (omega (arith, wide, more))),
+      );
     }
