@@ -5,3 +5,4 @@ pub mod Filling
 pub mod Searching
 pub mod Answering
 pub mod OneReading
+pub mod OfAll

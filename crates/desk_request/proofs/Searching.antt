@@ -1,12 +1,12 @@
 -- Bytes that are taken until they begin with a head.
-use Rattle.std.proofs.Common.{◌≡◌, ◌≢◌, ℕ, ◌<◌, inl, List, [], ◌∷◌, ◌++◌, length, take, Option, None, Ok, Err, refl, sym, ap, subst, ◌∙◌, arith, append-nil, length-append}
+use Rattle.std.proofs.Common.{◌≡◌, ◌≢◌, ℕ, ◌<◌, inl, inr, List, [], ◌∷◌, ◌++◌, Result, length, take, Option, None, Some, Ok, Err, refl, sym, ap, subst, ◌∙◌, arith, append-nil, length-append}
 use Rattle.std.proofs.lemmas.List.{nil_from_length}
 use Rattle.std.proofs.Math.Seq.{take-append_seam}
 use Rattle.httparse.specs.Grammar.{RequestHead, IsRequestHead, print_request, print_end}
 use Rattle.room_base.specs.Outside.{SourceView, Told}
 use Rattle.desk_request.specs.Heads.{HasNoHead, NeverHasHead, FindsHead}
 use Rattle.desk_request.specs.Reading.{Took}
-use Rattle.desk_request.specs.Steps.{ReadsHead}
+use Rattle.desk_request.specs.Steps.{EndsAs, HasEnded, ReadsHead}
 use Rattle.desk_request.specs.declared.head.Head.{Head}
 use Rattle.desk_request.specs.declared.fault.RequestFault.{RequestFault}
 use Rattle.desk_request.specs.declared.fault.RequestFault.TheVariants.{Bad, ReadFault, Memory}
@@ -68,3 +68,14 @@ none_found bytes items found is same finds =
 pub none_added : (bytes after more : List ℕ) → after ≡ bytes ++ more → 0 ≡ length more → HasNoHead bytes → HasNoHead after
 none_added bytes after more added empty none =
     subst HasNoHead (sym (added ∙ ap (λ b. bytes ++ b) (nil_from_length more (omega (arith, empty))) ∙ append-nil bytes)) none
+
+-- the source has ended, and no head is among the last bytes
+pub head_ended : (old new : SourceView) (before after more : List ℕ) (answer : Result (Option Head) RequestFault) → after ≡ before ++ more
+    → Told old.tells (Took old new more) → HasNoHead after → HasEnded new → EndsAs after answer → ReadsHead old new before after answer
+head_ended old new before after more (Ok None) added took none ended ends =
+    record { more = more; added = added; took = took; finds = (ends, ended) }
+head_ended old new before after more (Ok (Some found)) added took none ended ends = absurd ends
+head_ended old new before after more (Err Bad) added took none ended ends =
+    record { more = more; added = added; took = took; finds = (ends, none, inr ended) }
+head_ended old new before after more (Err ReadFault) added took none ended ends = absurd ends
+head_ended old new before after more (Err Memory) added took none ended ends = absurd ends

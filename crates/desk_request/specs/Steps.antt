@@ -44,6 +44,14 @@ pub record ReadsHead (old new : SourceView) (before after : List ℕ)
   pub took : Told old.tells (Took old new more)
   pub finds : FindsFirst new after answer
 
+-- what an answer says of the last bytes, where they have no head
+abbrev pub EndsAs : List ℕ → Result (Option Head) RequestFault → Type 0
+EndsAs bytes (Ok (Some found)) = ⊥
+EndsAs bytes (Ok None) = bytes ≡ []
+EndsAs bytes (Err Bad) = bytes ≢ []
+EndsAs bytes (Err ReadFault) = ⊥
+EndsAs bytes (Err Memory) = ⊥
+
 -- what an answer says of a list that was to be filled
 abbrev pub FillsUp : {T : Type 0} → SourceView → ℕ → List ℕ → Result T RequestFault → Type 0
 FillsUp new wanted more (Ok _) = length more ≡ wanted

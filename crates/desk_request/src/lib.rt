@@ -11,7 +11,7 @@ mod reading;
 mod request;
 
 pub use fault::RequestFault;
-pub use laws::requests_are_one;
+pub use laws::{answers_hold_of_all_bytes, requests_are_one};
 pub use reading::read_request;
 pub use request::Request;
 

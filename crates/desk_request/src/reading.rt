@@ -5,7 +5,7 @@ ghost use Rattle.room_base.specs.Faults.{Rose};
 ghost use Rattle.room_base.specs.Outside.{Told};
 ghost use Rattle.desk_request.specs.Heads.{HasNoHead, FindsHead};
 ghost use Rattle.desk_request.specs.Reading.{ReadsOne};
-ghost use Rattle.desk_request.specs.Steps.{TakesPiece, ReadsHead, Fills, ReadsBody};
+ghost use Rattle.desk_request.specs.Steps.{TakesPiece, ReadsHead, EndsAs, Fills, ReadsBody};
 ghost use Rattle.desk_request.specs.declared.fault.RequestFault.TheVariants.{ReadFault};
 
 use crate::head::{Head, MAX_HEAD, find_head};
@@ -66,12 +66,19 @@ fn read_head<S: Source>(
         }
         searched = buffer.len();
         if take_piece(source, buffer)? == 0 {
-            return if buffer.is_empty() {
-                Ok(None)
-            } else {
-                Err(RequestFault::Bad)
-            };
+            return end_of(buffer);
         }
+    }
+}
+
+// What the last bytes are that the source gave, where no head is among them.
+fn end_of(bytes: &[u8]) -> Result<Option<Head>, RequestFault>
+    ensures { EndsAs bytes.now result }
+{
+    if bytes.is_empty() {
+        Ok(None)
+    } else {
+        Err(RequestFault::Bad)
     }
 }
 

@@ -3,13 +3,8 @@ use borrow.Author.Tests.{eqb-false}
 use Rattle.std.proofs.lemmas.Result.{err_from_is_err_and}
 use Rattle.desk_request.specs.Heads.{FindsHead}
 use Rattle.desk_request.proofs.Finding.{never_of_long}
-use Rattle.desk_request.proofs.Searching.{none_of_nothing, has_bytes, took_none, search_failed, piece_more, searched_stays, none_found, none_added}
+use Rattle.desk_request.proofs.Searching.{none_of_nothing, has_bytes, took_none, search_failed, piece_more, searched_stays, none_found, none_added, head_ended}
 use Rattle.desk_request.proofs.reading.read_head.Goals as goal
-
-some_items : (buffer : Vec ℕ Global) (empty : Bool) → empty ≡ (vec_len buffer == 0) → empty ≡ false → 0 < length buffer.items
-some_items buffer empty is not =
-    let other : vec_len buffer ≢ 0 = eqb-false (vec_len buffer) 0 (sym is ∙ not) in
-    omega (arith, other, buffer.ok)
 
 pub pieces-init : goal.pieces-init
 pieces-init g c = record {
@@ -46,22 +41,19 @@ returns-then-len-ge-MAX_HEAD-clause-read g c =
       finds = (has_bytes bytes (omega (arith, long)), none, inl (never_of_long bytes none long));
     }
 
-pub returns-else-is_empty-clause-read : goal.returns-else-is_empty-clause-read
-returns-else-is_empty-clause-read g c =
+pub returns-then-branch-eq0-clause-read : goal.returns-then-branch-eq0-clause-read
+returns-then-branch-eq0-clause-read g c =
+    let old = g.S.Source.view c.args.source.now in
+    let new = g.S.Source.view c.take_piece.new.source in
     let so_far = c.pieces.invariant in
     let piece = c.in_ok-take_piece.ensures.piece in
+    let bytes = c.take_piece.new.buffer.items in
     let none = none_found c.deref.result.now c.pieces.buffer.items c.in_ok-head.field-0 c.in_default.is c.deref.ensures.value c.in_ok-head.ensures.found in
-    record {
-      more = so_far.more ++ piece.more;
-      added = piece.added ∙ ap (λ bytes. bytes ++ piece.more) so_far.added ∙ append_assoc c.args.buffer.now.items so_far.more piece.more;
-      took = piece_more (g.S.Source.view c.args.source.now) (g.S.Source.view c.pieces.source) (g.S.Source.view c.take_piece.new.source) so_far.more piece.more
-          so_far.tells so_far.took piece.took;
-      finds = (
-        has_bytes c.take_piece.new.buffer.items (some_items c.take_piece.new.buffer c.is_empty.result c.is_empty.ensures c.if-is_empty.false),
-        none_added c.pieces.buffer.items c.take_piece.new.buffer.items piece.more piece.added (sym c.if-branch-eq0.true ∙ piece.adds.0) none,
-        inr (piece.adds.1 c.if-branch-eq0.true),
-      );
-    }
+    let added = piece.added ∙ ap (λ b. b ++ piece.more) so_far.added ∙ append_assoc c.args.buffer.now.items so_far.more piece.more in
+    head_ended old new c.args.buffer.now.items bytes (so_far.more ++ piece.more) c.end_of.result added
+    (piece_more old (g.S.Source.view c.pieces.source) new so_far.more piece.more so_far.tells so_far.took piece.took)
+    (none_added c.pieces.buffer.items bytes piece.more piece.added (sym c.if-branch-eq0.true ∙ piece.adds.0) none)
+    (piece.adds.1 c.if-branch-eq0.true) (rw c.deref-then-branch-eq0.ensures.value at c.end_of.ensures)
 
 pub pieces-preserved : goal.pieces-preserved
 pieces-preserved g c =
