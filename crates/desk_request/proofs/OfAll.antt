@@ -1,5 +1,5 @@
 -- What is said of the bytes that were taken, said of all bytes.
-use Rattle.std.proofs.Common.{◌≡◌, inl, inr, List, ℕ, [], ◌++◌, Option, Some, None, Ok, Err, sym, ap, subst, ◌∙◌, append_assoc, append-nil}
+use Rattle.std.proofs.Common.{◌≡◌, inl, inr, List, ℕ, [], ◌++◌, Some, None, Ok, Err, sym, ap, subst, ◌∙◌, append_assoc, append-nil}
 use Rattle.room_base.specs.Outside.{SourceView}
 use Rattle.desk_request.specs.Requests.{RequestText, IsRequest, BeginsNone}
 use Rattle.desk_request.specs.Reading.{ReadsOne}

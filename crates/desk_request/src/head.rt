@@ -3,6 +3,7 @@
 ghost use Rattle.std.specs.Prelude.{◌≡◌, ◌≤◌, length, string_bytes, IfOk};
 ghost use Rattle.std.specs.Str.{IsUtf8};
 ghost use Rattle.httparse.specs.Spans.{IsRequestWithin, IsRequestOf};
+ghost use Rattle.desk_request.specs.Framing.{max_headers};
 ghost use Rattle.desk_request.specs.Heads.{FindsHead};
 
 use crate::RequestFault;
@@ -49,7 +50,7 @@ fn judge(
     headers: &[HeaderSpan],
     spans: RequestSpans,
 ) -> Result<Option<Head>, RequestFault>
-    requires room { length headers.now ≤ 32 }
+    requires room { length headers.now ≤ max_headers }
     requires within { IsRequestWithin bytes.now headers.now spans }
     requires read { IsRequestOf bytes.now headers.now spans }
     ensures { FindsHead bytes.now result }

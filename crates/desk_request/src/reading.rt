@@ -3,6 +3,7 @@
 ghost use Rattle.std.specs.Prelude.{◌≡◌, ◌≤◌, ◌<◌, Err, OnErr, length, min, take, drop, vec_len};
 ghost use Rattle.room_base.specs.Faults.{Rose};
 ghost use Rattle.room_base.specs.Outside.{Told};
+ghost use Rattle.desk_request.specs.Framing.{max_head};
 ghost use Rattle.desk_request.specs.Heads.{HasNoHead, FindsHead};
 ghost use Rattle.desk_request.specs.Reading.{ReadsOne};
 ghost use Rattle.desk_request.specs.Steps.{TakesPiece, ReadsHead, EndsAs, Fills, ReadsBody};
@@ -96,7 +97,7 @@ fn search(alloc: Global, bytes: &[u8], searched: usize) -> Result<Option<Head>, 
 
 // Takes at most a piece, and no more than a head has room for. 0 says that the source has ended.
 fn take_piece<S: Source>(source: &mut S, buffer: &mut Vec<u8>) -> Result<usize, RequestFault>
-    requires { vec_len buffer.old < 8192 }
+    requires { vec_len buffer.old < max_head }
     ensures later { (S.view source.old).faults ≤ (S.view source.new).faults }
     ensures cause { result ≡ Err ReadFault
         → Rose (S.view source.old).faults (S.view source.new).faults }

@@ -1,5 +1,4 @@
-use Rattle.std.proofs.Common.{◌≡◌, ◌≢◌, ◌≤◌, ◌∙◌, ◌++◌, ℕ, ◌<◌, Bool, false, ◌==◌, Vec, Global, vec_len, List, [], Err, length, inl, inr, refl, sym, ap, subst, arith, append_assoc, append-nil}
-use borrow.Author.Tests.{eqb-false}
+use Rattle.std.proofs.Common.{◌≤◌, ◌∙◌, ◌++◌, ℕ, List, [], Err, length, inl, refl, sym, ap, subst, arith, append_assoc, append-nil}
 use Rattle.std.proofs.lemmas.Result.{err_from_is_err_and}
 use Rattle.desk_request.specs.Heads.{FindsHead}
 use Rattle.desk_request.proofs.Finding.{never_of_long}

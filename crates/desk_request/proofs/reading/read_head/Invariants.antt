@@ -1,5 +1,6 @@
 use Rattle.std.proofs.Common.{◌≡◌, ◌≤◌, ◌-◌, ◌++◌, ℕ, List, take, vec_len}
 use Rattle.room_base.specs.Outside.{Told}
+use Rattle.desk_request.specs.Framing.{max_head}
 use Rattle.desk_request.specs.Heads.{HasNoHead}
 use Rattle.desk_request.specs.Reading.{Took}
 use Rattle.desk_request.proofs.reading.read_head.Given as goal
@@ -18,4 +19,4 @@ invariant-pieces g l = record {
 }
 
 abbrev pub decreases-pieces : goal.decreases-pieces
-decreases-pieces g l = 8192 - vec_len l.buffer
+decreases-pieces g l = max_head - vec_len l.buffer
