@@ -36,6 +36,7 @@ use Rattle.room_effects.specs.Effects.{
 }
 use Rattle.room_effects.specs.Files.{IsSeen, Touches, Torn, Whole, is_on, target}
 use Rattle.room_effects.specs.Faults.{fault_of}
+use Rattle.room_effects.specs.Needs.{CanDo}
 
 -- ---- deeds over the files
 
@@ -69,10 +70,10 @@ AreAllowed Allows (deed ∷ deeds) room image = Allows (effect_of deed) room ima
 
 -- ---- who may do what, what failed, and what was entered
 
--- each deed is done in an open room, so that nothing follows a broken entry
-abbrev pub AllOpen : List Deed → RoomView → Type 0
-AllOpen [] room = Unit {0}
-AllOpen (deed ∷ deeds) room = IsTrue room.is_open × AllOpen deeds (after deed room)
+-- each deed can be done in the room as it is then, so that nothing follows a broken entry
+abbrev pub AllCan : List Deed → RoomView → Type 0
+AllCan [] room = Unit {0}
+AllCan (deed ∷ deeds) room = CanDo (effect_of deed) room × AllCan deeds (after deed room)
 
 -- each deed is a read that was done: it leaves the room and the files as they are
 abbrev pub AreLooks : List Deed → Type 0
@@ -202,7 +203,7 @@ risen_by times count = min (count + times) (2 ^ 64 - 1)
 pub record Performed (deeds : List Deed) (old new : RoomView) (before now : DiskView)
     : Type 0 where
   pub room : new ≡ after_all deeds old
-  pub opens : AllOpen deeds old
+  pub can : AllCan deeds old
   pub tells : now.tells ≡ before.tells
   pub faults : (file : ℕ)
       → risen_by (failures file deeds old) (before.faults file) ≤ now.faults file
