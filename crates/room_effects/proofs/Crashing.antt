@@ -17,6 +17,7 @@ use Rattle.cat_journal.proofs.Turning.{knows_new, turned, turned_whole}
 use Rattle.catalog_change.specs.declared.change.Change.{Change}
 use Rattle.catalog_change.specs.declared.change.Change.TheVariants.{Defined, Dropped, Loaded, Ejected, Labelled, Begun, Finished, Aborted, Amended, Deleted, Purged, CopyBegun, CopyDone, IndexPart, FinishedParts}
 use Rattle.catalog_text.specs.Changes.{Stamped}
+use Rattle.catalog_text.specs.Decoding.{IsStamped}
 use Rattle.room_catalog.specs.Held.{CatalogueLists}
 use Rattle.room_effects.specs.View.{RoomView}
 use Rattle.room_effects.specs.Effects.{Broken, Enter, EnterPart, TurnOver, after_done, catalogue_after, entry_bytes, is_at_last, part_bytes, turned as turned_by, with_part_waiting}
@@ -90,10 +91,10 @@ knows_behind_one current last next contents payload image at counted means =
 
 -- ---- changes
 
-pub enter_stands : (IsSnapshot : CatalogueLists → List ℕ → Type 0) (m : Moment) (change : Change) (room : RoomView) (before image : Image) → CanDo (Enter m change) room
+pub enter_stands : (IsSnapshot : CatalogueLists → List ℕ → Type 0) (m : Moment) (change : Change) (room : RoomView) (before image : Image) → CanDo (Enter m change) room → IsStamped m.0 change
     → Touches (target (Enter m change) room) (Whole (Enter m change) room) before image → StandsAs IsSnapshot room before
     → StandsAs IsSnapshot (after_done (Enter m change) room) image
-enter_stands IsSnapshot m change room before image can touched stands =
+enter_stands IsSnapshot m change room before image can written touched stands =
     let journal = room.journal in
     let current = journal.current in
     let payload = entry_bytes m change in
@@ -109,13 +110,13 @@ enter_stands IsSnapshot m change room before image can touched stands =
       knows = knows_behind_one current journal.last (journal.last + 1) has.contents payload image has.at
           (number_change (form_of current) journal.last payload (entry_is_whole journal m change can.needs.whole)) means;
       reopens = reopens_as IsSnapshot image (file_of current) (with_payload has.contents payload) (catalogue_after m change room.catalogue) means
-          (subst G (told_whole m change room.catalogue can.needs.whole) (gives_more IsSnapshot has.contents room.catalogue m.0 change has.gives));
+          (subst G (told_whole m change room.catalogue can.needs.whole) (gives_more IsSnapshot has.contents room.catalogue m.0 change written has.gives));
     }
 
-pub enter_cut : (IsSnapshot : CatalogueLists → List ℕ → Type 0) (m : Moment) (change : Change) (room : RoomView) (before image : Image) → CanDo (Enter m change) room
+pub enter_cut : (IsSnapshot : CatalogueLists → List ℕ → Type 0) (m : Moment) (change : Change) (room : RoomView) (before image : Image) → CanDo (Enter m change) room → IsStamped m.0 change
     → Touches (target (Enter m change) room) (Torn (Enter m change) room) before image → StandsAs IsSnapshot room before
     → ReopensAfterSome IsSnapshot (entered (Broken (Enter m change)) room) room.catalogue image
-enter_cut IsSnapshot m change room before image can touched stands =
+enter_cut IsSnapshot m change room before image can written touched stands =
     let journal = room.journal in
     let current = journal.current in
     let payload = entry_bytes m change in
@@ -131,7 +132,7 @@ enter_cut IsSnapshot m change room before image can touched stands =
         reopened = catalogue_after m change room.catalogue;
         reopens = reopens_as IsSnapshot image (file_of current) (with_payload has.contents payload) (catalogue_after m change room.catalogue)
             (stands_more IsSnapshot current journal.last room.catalogue payload before image has touched.others more)
-            (subst G (told_whole m change room.catalogue can.needs.whole) (gives_more IsSnapshot has.contents room.catalogue m.0 change has.gives));
+            (subst G (told_whole m change room.catalogue can.needs.whole) (gives_more IsSnapshot has.contents room.catalogue m.0 change written has.gives));
         is = ap without_parts (sym (after_indexed m change room.catalogue));
       }
     ]
@@ -139,10 +140,10 @@ enter_cut IsSnapshot m change room before image can touched stands =
 -- ---- parts
 
 pub part_stands : (IsSnapshot : CatalogueLists → List ℕ → Type 0) (m : Moment) (ssid : Ssid) (part : ℕ) (index : List IndexEntry) (room : RoomView) (before image : Image)
-    → CanDo (EnterPart m ssid part index) room
+    → CanDo (EnterPart m ssid part index) room → IsStamped m.0 (IndexPart ssid part index)
     → Touches (target (EnterPart m ssid part index) room) (Whole (EnterPart m ssid part index) room) before image → StandsAs IsSnapshot room before
     → StandsAs IsSnapshot (after_done (EnterPart m ssid part index) room) image
-part_stands IsSnapshot m ssid part index room before image can touched stands =
+part_stands IsSnapshot m ssid part index room before image can written touched stands =
     let journal = room.journal in
     let current = journal.current in
     let payload = part_bytes m ssid part index in
@@ -157,14 +158,14 @@ part_stands IsSnapshot m ssid part index room before image can touched stands =
       knows = knows_behind_one current journal.last journal.last has.contents payload image has.at
           (number_part (form_of current) journal.last payload (entry_is_part journal m ssid part index can.needs.form)) means;
       reopens = reopens_as IsSnapshot image (file_of current) (with_payload has.contents payload) (with_part_waiting ssid part index room.catalogue) means
-          (gives_more IsSnapshot has.contents room.catalogue m.0 (IndexPart ssid part index) has.gives);
+          (gives_more IsSnapshot has.contents room.catalogue m.0 (IndexPart ssid part index) written has.gives);
     }
 
 pub part_cut : (IsSnapshot : CatalogueLists → List ℕ → Type 0) (m : Moment) (ssid : Ssid) (part : ℕ) (index : List IndexEntry) (room : RoomView) (before image : Image)
-    → CanDo (EnterPart m ssid part index) room
+    → CanDo (EnterPart m ssid part index) room → IsStamped m.0 (IndexPart ssid part index)
     → Touches (target (EnterPart m ssid part index) room) (Torn (EnterPart m ssid part index) room) before image → StandsAs IsSnapshot room before
     → ReopensAfterSome IsSnapshot [] room.catalogue image
-part_cut IsSnapshot m ssid part index room before image can touched stands =
+part_cut IsSnapshot m ssid part index room before image can written touched stands =
     let journal = room.journal in
     let current = journal.current in
     let payload = part_bytes m ssid part index in
@@ -179,7 +180,7 @@ part_cut IsSnapshot m ssid part index room before image can touched stands =
         reopened = with_part_waiting ssid part index room.catalogue;
         reopens = reopens_as IsSnapshot image (file_of current) (with_payload has.contents payload) (with_part_waiting ssid part index room.catalogue)
             (stands_more IsSnapshot current journal.last room.catalogue payload before image has touched.others more)
-            (gives_more IsSnapshot has.contents room.catalogue m.0 (IndexPart ssid part index) has.gives);
+            (gives_more IsSnapshot has.contents room.catalogue m.0 (IndexPart ssid part index) written has.gives);
         is = refl;
       }
     ]
@@ -237,7 +238,7 @@ gives_snapshot IsSnapshot snapshot room files stands spelled = record {
   snapshot = spelled;
   number = sym stands.number;
   entries = [];
-  texts = refl;
+  texts = tt;
   is = refl;
 }
 

@@ -13,8 +13,8 @@ use Rattle.room_effects.specs.Effects.{Effect, Deed, Done, Broken, after, after_
 use Rattle.room_effects.specs.Faults.{fault_of}
 use Rattle.room_effects.specs.Files.{Torn, Whole, device_of, file_or_none, is_file, target}
 use Rattle.room_effects.specs.Needs.{CanDo}
-use Rattle.room_effects.specs.Running.{AllCan, AreFounded, Crashed, Does, FromOne, IsFounded, Known, Led, Performed, RanTo, Ready, failures, known_behind, known_behind_all, risen_by}
-use Rattle.room_effects.proofs.Running.{after_append, can_append, crashed_append, crashed_front, failures_append, founded_behind, founded_front, known_append, led_append}
+use Rattle.room_effects.specs.Running.{AllCan, AreFounded, Crashed, Does, FromOne, IsFounded, IsWritten, Known, Led, Performed, RanTo, Ready, failures, known_behind, known_behind_all, risen_by}
+use Rattle.room_effects.proofs.Running.{after_append, can_append, written_append, crashed_append, crashed_front, failures_append, founded_behind, founded_front, known_append, led_append}
 use Rattle.room_effects.proofs.OneFile.{images_of_broken, images_of_done, moments_of, reads_of_broken, reads_of_done}
 
 -- ---- one effect that writes a file
@@ -38,17 +38,18 @@ abbrev pub KeepsReady : Deed → Effect → RoomView → DiskView → DiskView �
 KeepsReady deed effect room before now = (known : Known) → IsFounded known effect → Ready known room before
     → Settled before (target effect room) × Ready (known_behind known deed room) (after deed room) now
 
-pub does_done : {T U E : Type 0} (effect : Effect) (value : T) (lower : U) (room new : RoomView) (before now : DiskView) → CanDo effect room
+pub does_done : {T U E : Type 0} (effect : Effect) (value : T) (lower : U) (room new : RoomView) (before now : DiskView) → CanDo effect room → IsWritten effect
     → new ≡ after (Done effect) room → IsDisk before
     → WritesFile {T = U} {E = E} (target effect room) (Whole effect room) (Torn effect room) before now (Ok lower)
     → (IsTrue before.tells → KeepsReady (Done effect) effect room before now)
     → Does {T = T} (effect ∷ []) (Ok value) room new before now
-does_done {T} {U} {E} effect value lower room new before now can is is_before wrote keeps = record {
+does_done {T} {U} {E} effect value lower room new before now can written is is_before wrote keeps = record {
   deeds = Done effect ∷ [];
   ran = (refl, tt);
   performed = record {
     room = is;
     can = (can, tt);
+    written = (written, tt);
     tells = wrote.tells;
     faults = λ file. omega (arith, wrote.cause.later file);
     told = λ told known founded ready. (let both = keeps told known founded.0 ready in
@@ -62,17 +63,18 @@ does_done {T} {U} {E} effect value lower room new before now can is is_before wr
   };
 }
 
-pub does_broken : {T U E : Type 0} (effect : Effect) (fault : Refusal) (error : E) (room new : RoomView) (before now : DiskView) → CanDo effect room
+pub does_broken : {T U E : Type 0} (effect : Effect) (fault : Refusal) (error : E) (room new : RoomView) (before now : DiskView) → CanDo effect room → IsWritten effect
     → new ≡ after (Broken effect) room → fault_of effect room ≡ Some fault → IsDisk now
     → WritesFile {T = U} {E = E} (target effect room) (Whole effect room) (Torn effect room) before now (Err error)
     → (IsTrue before.tells → KeepsReady (Broken effect) effect room before now)
     → Does {T = T} (effect ∷ []) (Err fault) room new before now
-does_broken {T} {U} {E} effect fault error room new before now can is named is_now wrote keeps = record {
+does_broken {T} {U} {E} effect fault error room new before now can written is named is_now wrote keeps = record {
   deeds = Broken effect ∷ [];
   ran = (refl, named);
   performed = record {
     room = is;
     can = (can, tt);
+    written = (written, tt);
     tells = wrote.tells;
     faults = λ file. failures_of_broken effect room file (before.faults file) (now.faults file) (wrote.cause.later file)
         (λ same. let P : ℕ → Type 0 = λ n. Rose (before.faults n) (now.faults n) in subst P same wrote.cause.cause);
@@ -93,6 +95,7 @@ pub performed_none : (room : RoomView) (disk : DiskView) → Performed [] room r
 performed_none room disk = record {
   room = refl;
   can = tt;
+  written = tt;
   tells = refl;
   faults = λ file. omega arith;
   told = λ told known founded ready. record {
@@ -114,6 +117,7 @@ performed_then first more a b c old mid new one two =
     record {
       room = two.room ∙ ap (after_all more) one.room ∙ sym (after_append first more a);
       can = can_append first more a one.can (subst Cans one.room two.can);
+      written = written_append first more one.written two.written;
       tells = two.tells ∙ one.tells;
       faults = λ file. (let P : ℕ → Type 0 = λ times. risen_by times (old.faults file) ≤ new.faults file in
           subst P (sym (failures_append file first more a))

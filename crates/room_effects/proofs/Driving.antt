@@ -94,7 +94,7 @@ does_commit {T} U E drive asking value lower room new before now is can made is_
     let there = held_and (held_in room drive) CanCommit can.needs.1 in
     let one = there.one in
     let wrote_one = subst W there.is wrote in
-    does_done {T = T} {U = U} {E = E} (Commit drive asking) value lower room new before now can made is_before
+    does_done {T = T} {U = U} {E = E} (Commit drive asking) value lower room new before now can tt made is_before
     (commit_as {T = U} {E = E} (Ok lower) (held_in room drive) before now can.needs.1 wrote)
     (λ told known founded ready. (
       settled_held drive room known before one can.needs.0 there.is ready,
@@ -128,7 +128,7 @@ does_commit_broken {T} U E drive asking fault error room new before now is can m
     let there = held_and (held_in room drive) CanCommit can.needs.1 in
     let one = there.one in
     let wrote_one = subst W there.is wrote in
-    does_broken {T = T} {U = U} {E = E} (Commit drive asking) fault error room new before now can made named is_now
+    does_broken {T = T} {U = U} {E = E} (Commit drive asking) fault error room new before now can tt made named is_now
     (commit_as {T = U} {E = E} (Err error) (held_in room drive) before now can.needs.1 wrote)
     (λ told known founded ready. (
       settled_held drive room known before one can.needs.0 there.is ready,

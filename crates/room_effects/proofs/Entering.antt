@@ -15,6 +15,7 @@ use Rattle.cat_journal.specs.Journal.{JournalView, AddsEntry, IsLast, IsPart, Ma
 use Rattle.catalog_change.specs.declared.change.Change.{Change}
 use Rattle.catalog_change.specs.declared.change.Change.TheVariants.{Defined, Dropped, Loaded, Ejected, Labelled, Begun, Finished, Aborted, Amended, Deleted, Purged, CopyBegun, CopyDone, IndexPart, FinishedParts}
 use Rattle.catalog_text.specs.Fields.{number_bytes}
+use Rattle.catalog_text.specs.Decoding.{IsStamped}
 use Rattle.catalog_text.specs.Changes.{change_byte, change_text}
 use Rattle.room_catalog.specs.Held.{no_parts}
 use Rattle.slot_changer.specs.Drives.{DriveView, in_drive, no_volumes}
@@ -113,13 +114,13 @@ keeps_entered {T} {E} m change value room before now is can wrote told known fou
 
 -- a change was entered
 pub does_enter : {T U E : Type 0} (m : Moment) (change : Change) (journal : JournalView) (bytes : List ℕ) (value : T) (lower : U) (room new : RoomView) (before now : DiskView)
-    → IsRoom room → CanDo (Enter m change) room → room.journal ≡ record journal { spare = 0 } → bytes ≡ entry_bytes m change
+    → IsRoom room → CanDo (Enter m change) room → room.journal ≡ record journal { spare = 0 } → bytes ≡ entry_bytes m change → IsStamped m.0 change
     → new ≡ after_done (Enter m change) room → IsDisk before
     → WritesFile {T = U} {E = E} (file_of journal.current) (AddsEntry journal bytes) (MayAddEntry journal bytes) before now (Ok lower)
     → Does {T = T} (Enter m change ∷ []) (Ok value) room new before now
-does_enter {T} {U} {E} m change journal bytes value lower room new before now is can same text made is_before wrote =
+does_enter {T} {U} {E} m change journal bytes value lower room new before now is can same text written made is_before wrote =
     let wrote_so = entry_as {T = U} {E = E} (Ok lower) room journal bytes (entry_bytes m change) before now same text wrote in
-    does_done {T = T} {U = U} {E = E} (Enter m change) value lower room new before now can made is_before wrote_so
+    does_done {T = T} {U = U} {E = E} (Enter m change) value lower room new before now can written made is_before wrote_so
     (keeps_entered {T = U} {E = E} m change lower room before now is can wrote_so)
 
 keeps_part : {T E : Type 0} (m : Moment) (ssid : Ssid) (part : ℕ) (index : List IndexEntry) (value : T) (room : RoomView) (before now : DiskView) → IsRoom room
@@ -139,13 +140,13 @@ keeps_part {T} {E} m ssid part index value room before now is can wrote told kno
 
 -- a part was entered
 pub does_enter_part : {T U E : Type 0} (m : Moment) (ssid : Ssid) (part : ℕ) (index : List IndexEntry) (journal : JournalView) (bytes : List ℕ) (value : T) (lower : U) (room new : RoomView) (before now : DiskView)
-    → IsRoom room → CanDo (EnterPart m ssid part index) room → room.journal ≡ record journal { spare = 0 } → bytes ≡ part_bytes m ssid part index
+    → IsRoom room → CanDo (EnterPart m ssid part index) room → room.journal ≡ record journal { spare = 0 } → bytes ≡ part_bytes m ssid part index → IsStamped m.0 (IndexPart ssid part index)
     → new ≡ after_done (EnterPart m ssid part index) room → IsDisk before
     → WritesFile {T = U} {E = E} (file_of journal.current) (AddsEntry journal bytes) (MayAddEntry journal bytes) before now (Ok lower)
     → Does {T = T} (EnterPart m ssid part index ∷ []) (Ok value) room new before now
-does_enter_part {T} {U} {E} m ssid part index journal bytes value lower room new before now is can same text made is_before wrote =
+does_enter_part {T} {U} {E} m ssid part index journal bytes value lower room new before now is can same text written made is_before wrote =
     let wrote_so = entry_as {T = U} {E = E} (Ok lower) room journal bytes (part_bytes m ssid part index) before now same text wrote in
-    does_done {T = T} {U = U} {E = E} (EnterPart m ssid part index) value lower room new before now can made is_before wrote_so
+    does_done {T = T} {U = U} {E = E} (EnterPart m ssid part index) value lower room new before now can written made is_before wrote_so
     (keeps_part {T = U} {E = E} m ssid part index lower room before now is can wrote_so)
 
 -- ---- entries that failed
@@ -158,27 +159,27 @@ closed_is_ready known room file before now low is others ready =
     (λ opens. absurd (let no : ◌≡◌ {A = Bool} false true = opens in cc)) ready
 
 pub does_enter_broken : {T U E : Type 0} (m : Moment) (change : Change) (journal : JournalView) (bytes : List ℕ) (error : E) (room new : RoomView) (before now : DiskView)
-    → IsRoom room → CanDo (Enter m change) room → room.journal ≡ record journal { spare = 0 } → bytes ≡ entry_bytes m change
+    → IsRoom room → CanDo (Enter m change) room → room.journal ≡ record journal { spare = 0 } → bytes ≡ entry_bytes m change → IsStamped m.0 change
     → new ≡ closed room → IsDisk now
     → WritesFile {T = U} {E = E} (file_of journal.current) (AddsEntry journal bytes) (MayAddEntry journal bytes) before now (Err error)
     → Does {T = T} (Enter m change ∷ []) (Err JournalFault) room new before now
-does_enter_broken {T} {U} {E} m change journal bytes error room new before now is can same text made is_now wrote =
+does_enter_broken {T} {U} {E} m change journal bytes error room new before now is can same text written made is_now wrote =
     let file = file_of room.journal.current in
     let low = current_is room.journal.current is.journal.known in
     let wrote_so = entry_as {T = U} {E = E} (Err error) room journal bytes (entry_bytes m change) before now same text wrote in
-    does_broken {T = T} {U = U} {E = E} (Enter m change) JournalFault error room new before now can made refl is_now wrote_so
+    does_broken {T = T} {U = U} {E = E} (Enter m change) JournalFault error room new before now can written made refl is_now wrote_so
     (λ told known founded ready. (settled_one room.journal file before low (ready.journal can.opens), closed_is_ready known room file before now low is (wrote_so.others told) ready))
 
 pub does_enter_part_broken : {T U E : Type 0} (m : Moment) (ssid : Ssid) (part : ℕ) (index : List IndexEntry) (journal : JournalView) (bytes : List ℕ) (error : E) (room new : RoomView) (before now : DiskView)
-    → IsRoom room → CanDo (EnterPart m ssid part index) room → room.journal ≡ record journal { spare = 0 } → bytes ≡ part_bytes m ssid part index
+    → IsRoom room → CanDo (EnterPart m ssid part index) room → room.journal ≡ record journal { spare = 0 } → bytes ≡ part_bytes m ssid part index → IsStamped m.0 (IndexPart ssid part index)
     → new ≡ closed room → IsDisk now
     → WritesFile {T = U} {E = E} (file_of journal.current) (AddsEntry journal bytes) (MayAddEntry journal bytes) before now (Err error)
     → Does {T = T} (EnterPart m ssid part index ∷ []) (Err JournalFault) room new before now
-does_enter_part_broken {T} {U} {E} m ssid part index journal bytes error room new before now is can same text made is_now wrote =
+does_enter_part_broken {T} {U} {E} m ssid part index journal bytes error room new before now is can same text written made is_now wrote =
     let file = file_of room.journal.current in
     let low = current_is room.journal.current is.journal.known in
     let wrote_so = entry_as {T = U} {E = E} (Err error) room journal bytes (part_bytes m ssid part index) before now same text wrote in
-    does_broken {T = T} {U = U} {E = E} (EnterPart m ssid part index) JournalFault error room new before now can made refl is_now wrote_so
+    does_broken {T = T} {U = U} {E = E} (EnterPart m ssid part index) JournalFault error room new before now can written made refl is_now wrote_so
     (λ told known founded ready. (settled_one room.journal file before low (ready.journal can.opens), closed_is_ready known room file before now low is (wrote_so.others told) ready))
 
 -- ---- a turn-over
@@ -215,7 +216,7 @@ pub does_turn_over_last : {T : Type 0} (snapshot : List ℕ) (value : T) (room :
 does_turn_over_last {T} snapshot value room disk can last =
     let size = length snapshot in
     let Same : Bool → Type 0 = λ b. (bytes : List ℕ) → TurnsOver b room.journal snapshot bytes bytes in
-    does_in_memory {T = T} (TurnOver snapshot) value room room disk can (sym (turned_last size room last)) (subst Same (sym last) (λ bytes. refl))
+    does_in_memory {T = T} (TurnOver snapshot) value room room disk can tt (sym (turned_last size room last)) (subst Same (sym last) (λ bytes. refl))
     (λ told known founded ready. let P : RoomView → Type 0 = λ one. Ready known one disk in subst P (sym (turned_last size room last)) ready)
 
 turns_as : {T E : Type 0} (answer : Result T E) (room : RoomView) (journal : JournalView) (snapshot : List ℕ) (before now : DiskView)
@@ -260,7 +261,7 @@ pub does_turn_over : {T U E : Type 0} (snapshot : List ℕ) (journal : JournalVi
     → Does {T = T} (TurnOver snapshot ∷ []) (Ok value) room new before now
 does_turn_over {T} {U} {E} snapshot journal value lower room new before now is can same next allowed made is_before wrote =
     let P : JournalView → Type 0 = λ one. WritesFile {T = U} {E = E} (next_file one.current) (IsAnew 0x4A (new_text (next_head one) snapshot)) (AnewTorn 0x4A (new_text (next_head one) snapshot)) before now (Ok lower) in
-    does_done {T = T} {U = U} {E = E} (TurnOver snapshot) value lower room new before now can (made ∙ sym (turned_on (length snapshot) room next)) is_before
+    does_done {T = T} {U = U} {E = E} (TurnOver snapshot) value lower room new before now can tt (made ∙ sym (turned_on (length snapshot) room next)) is_before
     (turns_as {T = U} {E = E} (Ok lower) room journal snapshot before now same next wrote)
     (keeps_turned {T = U} {E = E} snapshot lower room before now is can next (front_as room journal snapshot same allowed) (subst P (sym same) wrote))
 
@@ -279,7 +280,7 @@ does_turn_over_broken {T} {U} {E} snapshot journal error room new before now is 
     let O : ℕ → Type 0 = λ n. Others n before now in
     let P : JournalView → Type 0 = λ one. WritesFile {T = U} {E = E} (next_file one.current) (IsAnew 0x4A (new_text (next_head one) snapshot)) (AnewTorn 0x4A (new_text (next_head one) snapshot)) before now (Err error) in
     let wrote_so = subst P (sym same) wrote in
-    does_broken {T = T} {U = U} {E = E} (TurnOver snapshot) JournalFault error room new before now can made (turn_fault snapshot room next) is_now
+    does_broken {T = T} {U = U} {E = E} (TurnOver snapshot) JournalFault error room new before now can tt made (turn_fault snapshot room next) is_now
     (turns_as {T = U} {E = E} (Err error) room journal snapshot before now same next wrote)
     (λ told known founded ready. (
       subst S (sym (turned_file snapshot room next)) (settled_one room.journal file before low (ready.journal can.opens)),

@@ -16,3 +16,5 @@ pub mod Changing
 pub mod Standing
 pub mod Crashing
 pub mod Reopening
+pub mod ReopeningDisks
+pub mod Closing

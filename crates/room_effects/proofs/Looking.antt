@@ -99,6 +99,7 @@ does_look cart seen value room before now can reads found = record {
   performed = record {
     room = refl;
     can = (can, tt);
+    written = (tt, tt);
     tells = reads.tells;
     faults = λ other. omega (arith, reads.later other);
     told = λ told known founded ready. (
@@ -127,6 +128,7 @@ does_look_broken cart seen room before now can reads rose = record {
   performed = record {
     room = refl;
     can = (can, tt);
+    written = (tt, tt);
     tells = reads.tells;
     faults = λ other. failures_of_broken (Look cart seen) room other (before.faults other) (now.faults other) (reads.later other)
         (λ same. let P : ℕ → Type 0 = λ n. Rose (before.faults n) (now.faults n) in subst P same rose);
@@ -215,7 +217,7 @@ pub does_write_label : {T U E : Type 0} (label : Label) (value : T) (lower : U) 
     → WritesFile {T = U} {E = E} (cart_file label.cart.0) (Relabels label) (IsBeingLabelled label) before now (Ok lower)
     → Does {T = T} (WriteLabel label ∷ []) (Ok value) room room before now
 does_write_label {T} {U} {E} label value lower room before now can is_before wrote =
-    does_done {T = T} {U = U} {E = E} (WriteLabel label) value lower room room before now can refl is_before wrote
+    does_done {T = T} {U = U} {E = E} (WriteLabel label) value lower room room before now can tt refl is_before wrote
     (λ told known founded ready. (
       settled_known known label.cart.0 room before can.needs.allowed.cart founded ready,
       ready_labelled known label room before now can (wrote.others told) ready,
@@ -225,7 +227,7 @@ pub does_write_label_broken : {T U E : Type 0} (label : Label) (error : E) (room
     → WritesFile {T = U} {E = E} (cart_file label.cart.0) (Relabels label) (IsBeingLabelled label) before now (Err error)
     → Does {T = T} (WriteLabel label ∷ []) (Err (DeviceFault (cart_file label.cart.0) [])) room room before now
 does_write_label_broken {T} {U} {E} label error room before now can is_now wrote =
-    does_broken {T = T} {U = U} {E = E} (WriteLabel label) (DeviceFault (cart_file label.cart.0) []) error room room before now can refl refl is_now wrote
+    does_broken {T = T} {U = U} {E = E} (WriteLabel label) (DeviceFault (cart_file label.cart.0) []) error room room before now can tt refl refl is_now wrote
     (λ told known founded ready. (
       settled_known known label.cart.0 room before can.needs.allowed.cart founded ready,
       ready_labelled known label room before now can (wrote.others told) ready,

@@ -6,7 +6,7 @@ use Rattle.room_effects.specs.View.{RoomView}
 use Rattle.room_effects.specs.Effects.{Effect, Deed, Done, Broken, after, after_all, after_done}
 use Rattle.room_effects.specs.Files.{Whole, target}
 use Rattle.room_effects.specs.Needs.{CanDo}
-use Rattle.room_effects.specs.Running.{Does, IsFounded, Known, RanTo, Ready, known_behind}
+use Rattle.room_effects.specs.Running.{Does, IsFounded, IsWritten, Known, RanTo, Ready, known_behind}
 
 -- ---- the deeds of effects that are all done
 
@@ -38,12 +38,12 @@ after_one effect value old new before now does = room_after (effect ∷ []) valu
 
 -- ---- an effect in memory alone
 
-pub does_in_memory : {T : Type 0} (effect : Effect) (value : T) (room new : RoomView) (disk : DiskView) → CanDo effect room
+pub does_in_memory : {T : Type 0} (effect : Effect) (value : T) (room new : RoomView) (disk : DiskView) → CanDo effect room → IsWritten effect
     → new ≡ after_done effect room → ((bytes : List ℕ) → Whole effect room bytes bytes)
     → (IsTrue disk.tells → (known : Known) → IsFounded known effect → Ready known room disk
     → Ready (known_behind known (Done effect) room) (after_done effect room) disk)
     → Does {T = T} (effect ∷ []) (Ok value) room new disk disk
-does_in_memory effect value room new disk can is same keeps =
+does_in_memory effect value room new disk can written is same keeps =
     let file = target effect room in
     record {
       deeds = Done effect ∷ [];
@@ -51,6 +51,7 @@ does_in_memory effect value room new disk can is same keeps =
       performed = record {
         room = is;
         can = (can, tt);
+        written = (written, tt);
         tells = refl;
         faults = λ file. omega arith;
         told = λ told known founded ready. (let P : RoomView → Type 0 = λ one. Ready (known_behind known (Done effect) room) one disk in

@@ -29,7 +29,7 @@ use Rattle.room_effects.specs.Effects.{
   is_at_last,
 }
 use Rattle.room_effects.specs.Files.{MayCommit, MayTurnOver, Torn, Touches, target}
-use Rattle.room_effects.specs.Running.{AllCan, AreAllowed, AreFounded, Crashed, Known, Led, catalogue_behind, entered, failures, known_behind, known_behind_all, trail}
+use Rattle.room_effects.specs.Running.{AllCan, AreWritten, AreAllowed, AreFounded, Crashed, Known, Led, catalogue_behind, entered, failures, known_behind, known_behind_all, trail}
 
 -- ---- what is cut short may not be begun
 
@@ -124,6 +124,10 @@ can_front (deed ∷ first) more room can = (can.0, can_front first more (after d
 pub can_behind : (first more : List Deed) (room : RoomView) → AllCan (first ++ more) room → AllCan more (after_all first room)
 can_behind [] more room can = can
 can_behind (deed ∷ first) more room can = can_behind first more (after deed room) can.1
+
+pub written_append : (first more : List Deed) → AreWritten first → AreWritten more → AreWritten (first ++ more)
+written_append [] more written next = next
+written_append (deed ∷ first) more written next = (written.0, written_append first more written.1 next)
 
 pub failures_append : (file : ℕ) (first more : List Deed) (room : RoomView)
     → failures file (first ++ more) room ≡ failures file first room + failures file more (after_all first room)

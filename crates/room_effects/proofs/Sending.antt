@@ -36,7 +36,7 @@ pub does_push : {T : Type 0} (drive ssid copy offset : ℕ) (bytes : List ℕ) (
     → CanDo (Push drive ssid copy offset bytes) room → new ≡ after_done (Push drive ssid copy offset bytes) room
     → Does {T = T} (Push drive ssid copy offset bytes ∷ []) (Ok value) room new disk disk
 does_push {T} drive ssid copy offset bytes value room new disk is can made =
-    does_in_memory {T = T} (Push drive ssid copy offset bytes) value room new disk can made (λ file. refl)
+    does_in_memory {T = T} (Push drive ssid copy offset bytes) value room new disk can tt made (λ file. refl)
     (λ told known founded ready. ready_as known room (after_done (Push drive ssid copy offset bytes) room) disk (λ opens. opens) refl
     (was_pushed drive ssid copy offset bytes room is can.needs.is_drive) ready)
 
@@ -60,7 +60,7 @@ ready_put_in known drive volume room disk is can founded ready =
 pub does_put_in : {T : Type 0} (drive : ℕ) (volume : Volume) (value : T) (room new : RoomView) (disk : DiskView) → IsRoom room → CanDo (PutIn drive volume) room
     → new ≡ after_done (PutIn drive volume) room → Does {T = T} (PutIn drive volume ∷ []) (Ok value) room new disk disk
 does_put_in {T} drive volume value room new disk is can made =
-    does_in_memory {T = T} (PutIn drive volume) value room new disk can made (λ file. refl)
+    does_in_memory {T = T} (PutIn drive volume) value room new disk can tt made (λ file. refl)
     (λ told known founded ready. ready_put_in known drive volume room disk is can founded ready)
 
 -- what is in the drives when one of them was emptied
@@ -74,7 +74,7 @@ was_emptied drive room is is_drive other one is_other now = elim (was_set room.d
 pub does_take_out : {T : Type 0} (drive : ℕ) (value : T) (room new : RoomView) (disk : DiskView) → IsRoom room → CanDo (TakeOut drive) room
     → new ≡ after_done (TakeOut drive) room → Does {T = T} (TakeOut drive ∷ []) (Ok value) room new disk disk
 does_take_out {T} drive value room new disk is can made =
-    does_in_memory {T = T} (TakeOut drive) value room new disk can made (λ file. refl)
+    does_in_memory {T = T} (TakeOut drive) value room new disk can tt made (λ file. refl)
     (λ told known founded ready. ready_as known room (after_done (TakeOut drive) room) disk (λ opens. opens) refl
     (λ other one is_other now. record { old = one; held = was_emptied drive room is can.needs.0 other one is_other now; volume = refl }) ready)
 
@@ -94,17 +94,17 @@ ready_sessions known room new disk opens journal drives ready =
 pub does_open : {T : Type 0} (head : SetHead) (value : T) (room new : RoomView) (disk : DiskView) → CanDo (Open head) room → new ≡ after_done (Open head) room
     → Does {T = T} (Open head ∷ []) (Ok value) room new disk disk
 does_open {T} head value room new disk can made =
-    does_in_memory {T = T} (Open head) value room new disk can made (λ file. refl)
+    does_in_memory {T = T} (Open head) value room new disk can tt made (λ file. refl)
     (λ told known founded ready. ready_sessions known room (after_done (Open head) room) disk (λ opens. opens) refl refl ready)
 
 pub does_take : {T : Type 0} (ssid : ℕ) (piece : List ℕ) (value : T) (room new : RoomView) (disk : DiskView) → CanDo (Take ssid piece) room
     → new ≡ after_done (Take ssid piece) room → Does {T = T} (Take ssid piece ∷ []) (Ok value) room new disk disk
 does_take {T} ssid piece value room new disk can made =
-    does_in_memory {T = T} (Take ssid piece) value room new disk can made (λ file. refl)
+    does_in_memory {T = T} (Take ssid piece) value room new disk can tt made (λ file. refl)
     (λ told known founded ready. ready_sessions known room (after_done (Take ssid piece) room) disk (λ opens. opens) refl refl ready)
 
 pub does_close : {T : Type 0} (ssid : ℕ) (value : T) (room new : RoomView) (disk : DiskView) → CanDo (Close ssid) room → new ≡ after_done (Close ssid) room
     → Does {T = T} (Close ssid ∷ []) (Ok value) room new disk disk
 does_close {T} ssid value room new disk can made =
-    does_in_memory {T = T} (Close ssid) value room new disk can made (λ file. refl)
+    does_in_memory {T = T} (Close ssid) value room new disk can tt made (λ file. refl)
     (λ told known founded ready. ready_sessions known room (after_done (Close ssid) room) disk (λ opens. opens) refl refl ready)

@@ -11,9 +11,10 @@ use Rattle.cat_journal.proofs.OneMeaning.{one_meaning}
 use Rattle.catalog_change.specs.Catalogues.{max_number}
 use Rattle.catalog_change.specs.declared.change.Change.{Change}
 use Rattle.catalog_text.specs.Changes.{Stamped, change_text}
+use Rattle.catalog_text.specs.Decoding.{ChangeText, IsStamped}
 use Rattle.room_catalog.specs.Held.{CatalogueLists}
 use Rattle.room_effects.specs.View.{RoomView, AreDrives, IsRoom}
-use Rattle.room_effects.specs.Reopening.{GiveCatalogue, MeansCatalogue, Reopens, behind_entries, behind_told, stamped_text}
+use Rattle.room_effects.specs.Reopening.{GiveCatalogue, MeansCatalogue, Reopens, behind_entries, behind_told, AreTexts}
 use Rattle.room_effects.proofs.Journals.{HasRange, knows_alike, means_alike, range_of}
 
 -- The files are those of the room's journal, and give its catalogue.
@@ -119,16 +120,24 @@ behind_one_more : (entries : List Stamped) (one : Stamped) (lists : CatalogueLis
 behind_one_more [] one lists = refl
 behind_one_more (first ∷ entries) one lists = behind_one_more entries one (behind_told first.moment first.change lists)
 
+texts_more : (payloads : List (List ℕ)) (entries : List Stamped) (payload : List ℕ) (one : Stamped) → AreTexts payloads entries
+    → ChangeText payload one.moment one.change → AreTexts (payloads ++ payload ∷ []) (entries ++ one ∷ [])
+texts_more [] [] payload one texts text = (text, tt)
+texts_more [] (first ∷ entries) payload one texts text = absurd texts
+texts_more (front ∷ payloads) [] payload one texts text = absurd texts
+texts_more (front ∷ payloads) (first ∷ entries) payload one texts text = (texts.0, texts_more payloads entries payload one texts.1 text)
+
 -- contents with one entry more give the catalogue behind it
 pub gives_more : (IsSnapshot : CatalogueLists → List ℕ → Type 0) (contents : Contents) (lists : CatalogueLists) (moment : ℕ) (change : Change)
-    → GiveCatalogue IsSnapshot contents lists → GiveCatalogue IsSnapshot (with_payload contents (change_text moment change)) (behind_told moment change lists)
-gives_more IsSnapshot contents lists moment change gives =
+    → IsStamped moment change → GiveCatalogue IsSnapshot contents lists
+    → GiveCatalogue IsSnapshot (with_payload contents (change_text moment change)) (behind_told moment change lists)
+gives_more IsSnapshot contents lists moment change written gives =
     let one : Stamped = record { moment = moment; change = change } in
     record {
       first = gives.first;
       snapshot = gives.snapshot;
       number = gives.number;
       entries = gives.entries ++ one ∷ [];
-      texts = ap (λ (texts : List (List ℕ)). texts ++ change_text moment change ∷ []) gives.texts ∙ sym (map-append stamped_text gives.entries (one ∷ []));
+      texts = texts_more contents.payloads gives.entries (change_text moment change) one gives.texts (record { is = written; text = refl });
       is = ap (behind_told moment change) gives.is ∙ sym (behind_one_more gives.entries one gives.first);
     }

@@ -1,12 +1,13 @@
 -- What the files of a journal reopen as: the catalogue that a snapshot and the entries behind it
 -- give. How a snapshot is spelled is an argument.
-use Rattle.std.specs.Prelude.{◌≡◌, ℕ, ◌≤◌, List, [], ◌∷◌, length, map, take}
+use Rattle.std.specs.Prelude.{◌≡◌, ℕ, ◌≤◌, List, [], ◌∷◌, length, take}
 use Rattle.room_disk.specs.Disk.{Image}
 use Rattle.cat_journal.specs.Contents.{Contents}
 use Rattle.cat_journal.specs.Meaning.{Meaning, Means, Unopened, Damaged, Stands}
 use Rattle.catalog_change.specs.declared.change.Change.{Change}
 use Rattle.catalog_change.specs.declared.change.Change.TheVariants.{IndexPart}
-use Rattle.catalog_text.specs.Changes.{Stamped, change_text}
+use Rattle.catalog_text.specs.Changes.{Stamped}
+use Rattle.catalog_text.specs.Decoding.{ChangeText}
 use Rattle.room_catalog.specs.Held.{CatalogueLists, catalogue_of, no_parts, opening_catalogue}
 use Rattle.room_effects.specs.View.{RoomView}
 use Rattle.room_effects.specs.Effects.{
@@ -31,8 +32,12 @@ abbrev pub behind_entries : List Stamped → CatalogueLists → CatalogueLists
 behind_entries [] lists = lists
 behind_entries (one ∷ more) lists = behind_entries more (behind_told one.moment one.change lists)
 
-abbrev pub stamped_text : Stamped → List ℕ
-stamped_text one = change_text one.moment one.change
+-- each payload is the text of its entry
+abbrev pub AreTexts : List (List ℕ) → List Stamped → Type 0
+AreTexts [] [] = Unit {0}
+AreTexts (payload ∷ payloads) (one ∷ entries) =
+    ChangeText payload one.moment one.change × AreTexts payloads entries
+AreTexts payloads entries = ⊥
 
 -- ---- files
 
@@ -43,7 +48,7 @@ pub record GiveCatalogue (IsSnapshot : CatalogueLists → List ℕ → Type 0) (
   pub snapshot : IsSnapshot first contents.snapshot
   pub number : first.number ≡ contents.head.number
   pub entries : List Stamped
-  pub texts : contents.payloads ≡ map stamped_text entries
+  pub texts : AreTexts contents.payloads entries
   pub is : lists ≡ behind_entries entries first
 
 -- where no journal file is open, the opening catalogue
@@ -88,3 +93,8 @@ HaveSnapshots IsSnapshot [] room = Unit {0}
 HaveSnapshots IsSnapshot (deed ∷ deeds) room =
     HasItsSnapshot IsSnapshot (effect_of deed) room
     × HaveSnapshots IsSnapshot deeds (after deed room)
+
+-- the same catalogue, and the same parts wait: a set with an index without entries is as one
+-- without
+abbrev pub AreAlike : CatalogueLists → CatalogueLists → Type 0
+AreAlike one other = (catalogue_of one ≡ catalogue_of other) × (one.parts ≡ other.parts)

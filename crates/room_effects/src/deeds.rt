@@ -22,6 +22,8 @@ ghost use Rattle.cat_journal.specs.Contents.{IsFront};
 ghost use Rattle.cat_journal.specs.Journal.{JournalView, AddsEntry, MayAddEntry, file_of, new_text};
 ghost use Rattle.cat_journal.specs.Journal.{next_file, next_head};
 ghost use Rattle.catalog_change.specs.declared.change.Change.{Change};
+ghost use Rattle.catalog_change.specs.declared.change.Change.TheVariants.{IndexPart};
+ghost use Rattle.catalog_text.specs.Decoding.{IsStamped};
 ghost use Rattle.slot_changer.specs.Committing.{AddsBuffer, MayAddBuffer, cart_file_of};
 ghost use Rattle.room_effects.specs.View.{RoomView, IsRoom, held_in};
 ghost use Rattle.room_effects.specs.Effects.{Effect, after_broken, after_done, entry_bytes};
@@ -40,7 +42,7 @@ use room_disk::Store;
 pub fn an_entry_is_an_effect<D: Store>(before: &D, now: &D)
     ensures done { (m : Moment) (change : Change) (journal : JournalView) (bytes : List ℕ)
         (number : ℕ) (room new : RoomView) → IsRoom room → CanDo (Enter m change) room
-        → room.journal ≡ record journal { spare = 0 } → bytes ≡ entry_bytes m change
+        → room.journal ≡ record journal { spare = 0 } → bytes ≡ entry_bytes m change → IsStamped m.0 change
         → new ≡ after_done (Enter m change) room
         → WritesFile {T = ℕ} {E = Failed} (file_of journal.current) (AddsEntry journal bytes)
         (MayAddEntry journal bytes) (D.view before.now) (D.view now.now) (Ok number)
@@ -48,7 +50,7 @@ pub fn an_entry_is_an_effect<D: Store>(before: &D, now: &D)
         (D.view before.now) (D.view now.now) }
     ensures broken { (m : Moment) (change : Change) (journal : JournalView) (bytes : List ℕ)
         (failed : Failed) (room new : RoomView) → IsRoom room → CanDo (Enter m change) room
-        → room.journal ≡ record journal { spare = 0 } → bytes ≡ entry_bytes m change
+        → room.journal ≡ record journal { spare = 0 } → bytes ≡ entry_bytes m change → IsStamped m.0 change
         → new ≡ after_broken (Enter m change) room
         → WritesFile {T = ℕ} {E = Failed} (file_of journal.current) (AddsEntry journal bytes)
         (MayAddEntry journal bytes) (D.view before.now) (D.view now.now) (Err failed)
@@ -61,7 +63,7 @@ pub fn an_entry_of_a_part_is_an_effect<D: Store>(before: &D, now: &D)
     ensures done { (m : Moment) (ssid : Ssid) (part : ℕ) (index : List IndexEntry)
         (journal : JournalView) (bytes : List ℕ) (room new : RoomView) → IsRoom room
         → CanDo (EnterPart m ssid part index) room → room.journal ≡ record journal { spare = 0 }
-        → bytes ≡ part_bytes m ssid part index
+        → bytes ≡ part_bytes m ssid part index → IsStamped m.0 (IndexPart ssid part index)
         → new ≡ after_done (EnterPart m ssid part index) room
         → WritesFile {T = Unit {0}} {E = Failed} (file_of journal.current)
         (AddsEntry journal bytes) (MayAddEntry journal bytes)
@@ -72,6 +74,7 @@ pub fn an_entry_of_a_part_is_an_effect<D: Store>(before: &D, now: &D)
         (journal : JournalView) (bytes : List ℕ) (failed : Failed) (room new : RoomView)
         → IsRoom room → CanDo (EnterPart m ssid part index) room
         → room.journal ≡ record journal { spare = 0 } → bytes ≡ part_bytes m ssid part index
+        → IsStamped m.0 (IndexPart ssid part index)
         → new ≡ after_broken (EnterPart m ssid part index) room
         → WritesFile {T = Unit {0}} {E = Failed} (file_of journal.current)
         (AddsEntry journal bytes) (MayAddEntry journal bytes)

@@ -7,10 +7,10 @@ returns g c =
     let before = g.D.Store.view c.args.before.now in
     let now = g.D.Store.view c.args.now.now in
     record {
-      done = λ m ssid part index journal bytes room new is can same text made wrote.
-          does_enter_part {T = Unit {0}} {U = Unit {0}} {E = Failed} m ssid part index journal bytes tt tt room new before now is can same text made
+      done = λ m ssid part index journal bytes room new is can same text written made wrote.
+          does_enter_part {T = Unit {0}} {U = Unit {0}} {E = Failed} m ssid part index journal bytes tt tt room new before now is can same text written made
           (g.met.D.Store.is_disk c.args.before.now) wrote;
-      broken = λ m ssid part index journal bytes failed room new is can same text made wrote.
-          does_enter_part_broken {T = Unit {0}} {U = Unit {0}} {E = Failed} m ssid part index journal bytes failed room new before now is can same text made
+      broken = λ m ssid part index journal bytes failed room new is can same text written made wrote.
+          does_enter_part_broken {T = Unit {0}} {U = Unit {0}} {E = Failed} m ssid part index journal bytes failed room new before now is can same text written made
           (g.met.D.Store.is_disk c.args.now.now) wrote;
     }
