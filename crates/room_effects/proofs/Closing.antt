@@ -1,6 +1,6 @@
 -- The sessions that a failed commit closes, one after the other, and sessions that aren't open.
-use Rattle.std.proofs.Common.{◌≡◌, ◌≢◌, ℕ, suc, ◌+◌, ◌≤◌, ◌<◌, Bool, true, false, cond, not, List, [], ◌∷◌, ◌++◌, length, take, refl, sym, ap, ◌∙◌, subst, arith}
-use Rattle.std.proofs.lemmas.Bool.{cond-false, cond-true, cond_both}
+use Rattle.std.proofs.Common.{◌≡◌, ◌≢◌, ℕ, Bool, true, false, cond, not, List, [], ◌∷◌, ◌++◌, refl, sym, ap, ◌∙◌, arith}
+use Rattle.std.proofs.lemmas.Bool.{cond-false, cond-true}
 use Rattle.std.proofs.lemmas.Cmp.{nat_cmp_total}
 use Rattle.std.specs.List.{AllByRecursion, filter}
 use Rattle.std.specs.Ordering.{eq_by_cmp, nat_cmp}
@@ -71,6 +71,7 @@ module _ (ends : SessionView → Bool) where
     where
       apart : AllByRecursion (λ session. ssid_of one ≢ ssid_of session) sessions
       apart = above_apart (ssid_of one) sessions ascend
+
       by : (end : Bool) → close_each (ssids_of (filter ends sessions)) sessions ≡ filter (λ session. not (ends session)) sessions
           → close_each (ssids_of (cond end (one ∷ filter ends sessions) (filter ends sessions))) (one ∷ sessions)
           ≡ cond (not end) (one ∷ filter (λ session. not (ends session)) sessions) (filter (λ session. not (ends session)) sessions)

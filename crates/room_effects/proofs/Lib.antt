@@ -18,3 +18,5 @@ pub mod Crashing
 pub mod Reopening
 pub mod ReopeningDisks
 pub mod Closing
+pub mod Holding
+pub mod Opening

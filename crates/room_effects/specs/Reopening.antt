@@ -98,3 +98,7 @@ HaveSnapshots IsSnapshot (deed ∷ deeds) room =
 -- without
 abbrev pub AreAlike : CatalogueLists → CatalogueLists → Type 0
 AreAlike one other = (catalogue_of one ≡ catalogue_of other) × (one.parts ≡ other.parts)
+
+-- the snapshots of a spelling
+abbrev pub IsSpelled : (CatalogueLists → List ℕ) → CatalogueLists → List ℕ → Type 0
+IsSpelled spelling lists bytes = bytes ≡ spelling lists
