@@ -97,3 +97,13 @@ none_changed ssid change (one ∷ sessions) none = by (eq_by_cmp nat_cmp (ssid_o
         → cond here (change one ∷ sessions) (one ∷ change_session ssid change sessions) ≡ one ∷ sessions
     by true none rest = absurd (cc none)
     by false none rest = ap (λ more. one ∷ more) (rest none)
+
+-- and so does its end
+pub none_closed : (ssid : ℕ) (sessions : List SessionView) → find_session ssid sessions ≡ None → close_session ssid sessions ≡ sessions
+none_closed ssid [] none = refl
+none_closed ssid (one ∷ sessions) none = by (eq_by_cmp nat_cmp (ssid_of one) ssid) none (none_closed ssid sessions)
+  where
+    by : (here : Bool) → cond here (Some one) (find_session ssid sessions) ≡ None → (find_session ssid sessions ≡ None → close_session ssid sessions ≡ sessions)
+        → cond (not here) (one ∷ close_session ssid sessions) (close_session ssid sessions) ≡ one ∷ sessions
+    by true none rest = absurd (cc none)
+    by false none rest = ap (λ more. one ∷ more) (rest none)
