@@ -44,7 +44,10 @@ fn a_snapshot_without_indexes_has_none(rt: HostRuntime) -> Result<(), Fail> {
     let alloc = rt.alloc();
     let catalogue = saved(alloc)?;
     let again = read_back(alloc, &catalogue, false)?;
-    assert_eq!(rt; seen_of(&again, 1), Some((RecordState::Complete, 1, 2, 0, 0)));
+    assert_eq!(rt;
+        seen_of(&again, 1),
+        Some((RecordState::Complete, 1, 2, 0, 0))
+    );
     Ok(())
 }
 

@@ -10,13 +10,13 @@ ghost use Rattle.room_catalog.specs.Views.{held_of};
 
 use crate::copy_room::CopyRoom;
 use crate::parts::PendingParts;
-use resource_lists::Resources;
 use crate::saves::{begun_record, purge};
 use crate::slots::Slots;
 use crate::volumes::lay_volume;
 use catalog_change::{Change, FilledSlot};
 use client_index::ClientIndex;
 use media_db::{MediaDb, VolumeRec};
+use resource_lists::Resources;
 use room_base::{Moment, Ssid, Volid};
 
 /// Everything that a catalogue keeps.
