@@ -1,26 +1,26 @@
 -- What is found in the lists of a catalogue after a change.
-use Rattle.std.proofs.Common.{◌≡◌, ◌≢◌, ℕ, Bool, true, false, not, cond, List, [], ◌∷◌, Option, Some, None, refl, sym, subst, ap, ◌∙◌, arith}
-use Rattle.std.specs.Prelude.{◌==◌, ◌||◌, filter_map, unwrap_or}
-use Rattle.std.specs.List.{AllByRecursion, cons_option, list_any}
+use Rattle.std.proofs.Common.{◌≡◌, ◌≢◌, ℕ, Bool, true, false, cond, List, [], ◌∷◌, Option, Some, None, refl, sym, ap, ◌∙◌, arith}
+use Rattle.std.specs.Prelude.{◌==◌, ◌||◌, unwrap_or}
+use Rattle.std.specs.List.{AllByRecursion}
 use Rattle.std.specs.Option.{option_and_then, option_map, option_or}
 use Rattle.std.specs.Cmp.{unsigned_ties}
 use Rattle.std.specs.Cmp.Lexicographic.{slice_cmp, nat_list_cmp_total, same_text, texts_ties}
 use Rattle.std.specs.Ordering.{eq_by_cmp, is_eq, nat_cmp}
 use Rattle.std.specs.declared.cmp.Ordering.TheVariants.{Equal, Greater, Less}
 use Rattle.std.specs.declared.cmp.Ordering.{Ordering}
-use Rattle.std.proofs.lemmas.Bool.{cond-false, cond-true, true≢false}
+use Rattle.std.proofs.lemmas.Bool.{true≢false}
 use Rattle.std.proofs.lemmas.Bool.Decides.{nat_tests}
 use Rattle.std.proofs.lemmas.Cmp.{nat_cmp_total}
 use Rattle.room_base.specs.declared.numbers.Ssid.{Ssid}
-use Rattle.room_base.specs.Ordered.{Ascends, AscendsFrom, find_by, put_by, remove_by}
+use Rattle.room_base.specs.Ordered.{Ascends, put_by, remove_by}
 use Rattle.room_base.proofs.OrderedLaws.{each_above, each_found, found_has_key, found_put, found_removed, found_updated}
 use Rattle.room_base.proofs.OrderedLists.{ascend_rest}
 use Rattle.room_base.proofs.OrderedNumbers.{equal_numbers, lesser_number}
 use Rattle.save_stream.specs.declared.entry.IndexEntry.{IndexEntry}
 use Rattle.media_db.specs.declared.records.Record.{Record}
 use Rattle.media_db.specs.declared.volumes.VolumeRec.{VolumeRec}
-use Rattle.media_db.specs.Edits.{drop_copies_on, has_copy_if_complete, purged_by, without_copies_on}
-use Rattle.media_db.specs.Rows.{find_record, find_volume, put_row, put_volume, remove_row, remove_volume, ssid_of, update_row, volid_of}
+use Rattle.media_db.specs.Edits.{has_copy_if_complete, purged_by, without_copies_on}
+use Rattle.media_db.specs.Rows.{find_record, find_volume, put_row, put_volume, remove_row, ssid_of, update_row, volid_of}
 use Rattle.media_db.proofs.Dropped.{found_dropped}
 use Rattle.client_index.specs.declared.index.SetIndex.{SetIndex}
 use Rattle.client_index.specs.Sets.{entries_of, forget, put}
@@ -31,7 +31,7 @@ use Rattle.room_catalog.specs.Applying.{edited_at, index_of_row, is_among, is_go
 use Rattle.room_catalog.specs.Changing.{forget_each, forget_off, forget_row_off, purge_each, records_off, sets_off, volumes_off}
 use Rattle.room_catalog.specs.Fits.{find_slot}
 use Rattle.room_catalog.specs.Held.{index_in}
-use Rattle.resource_lists.specs.Kinds.{find_named, put_each, put_named, remove_named}
+use Rattle.resource_lists.specs.Kinds.{find_named, put_each, put_named}
 
 -- a choice by numbers that compare as equal is one by numbers that are equal
 pub by_number : {A : Type 0} (one other : ℕ) (x y : A) → cond (eq_by_cmp nat_cmp one other) x y ≡ cond (one == other) x y

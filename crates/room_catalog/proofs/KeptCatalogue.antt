@@ -1,19 +1,16 @@
 -- A catalogue stays one that is allowed, whatever fits it.
-use Rattle.std.proofs.Common.{◌≡◌, ℕ, ◌+◌, ◌<◌, ◌≤◌, Bool, true, false, cond, List, [], ◌∷◌, length, Option, Some, None, refl, sym, subst, ap, ◌∙◌, arith}
+use Rattle.std.proofs.Common.{◌≡◌, ℕ, ◌+◌, ◌≤◌, Bool, true, false, cond, List, [], ◌∷◌, Option, Some, refl, sym, subst, ap, ◌∙◌, arith}
 use Rattle.std.specs.Prelude.{◌==◌, IsSomeAnd}
-use Rattle.std.specs.List.{AllByRecursion}
 use Rattle.std.specs.Ordering.{eq_by_cmp, nat_cmp}
 use Rattle.std.proofs.lemmas.Bool.{cond-false, cond-true}
 use Rattle.room_base.specs.Numbers.{max_moment}
-use Rattle.room_base.specs.declared.numbers.CopyNo.{CopyNo}
 use Rattle.room_base.specs.declared.numbers.Moment.{Moment}
 use Rattle.room_base.specs.declared.numbers.Ssid.{Ssid}
 use Rattle.save_stream.specs.declared.entry.IndexEntry.{IndexEntry}
-use Rattle.media_db.specs.declared.copies.Section.{Section}
 use Rattle.media_db.specs.declared.records.Record.{Record}
 use Rattle.media_db.specs.declared.volumes.VolumeRec.{VolumeRec}
 use Rattle.media_db.specs.Edits.{aborted, amended, finished, purged_by, with_begun_copy, with_copy_removed, with_done_copy}
-use Rattle.media_db.specs.Rows.{find_record, ssid_of, update_row, volume_on}
+use Rattle.media_db.specs.Rows.{find_record, update_row, volume_on}
 use Rattle.catalog_change.specs.declared.change.Change.{Change}
 use Rattle.catalog_change.specs.declared.change.Change.TheVariants.{Defined, Dropped, Loaded, Ejected, Labelled, Begun, Finished, Aborted, Amended, Deleted, Purged, CopyBegun, CopyDone, IndexPart, FinishedParts}
 use Rattle.catalog_change.specs.declared.resource.ResourceKind.TheVariants as kinds
@@ -21,9 +18,9 @@ use Rattle.catalog_change.specs.declared.slot.FilledSlot.{FilledSlot}
 use Rattle.catalog_change.specs.Catalogues.{Catalogue, HasRecords, HasResources, IsCatalogue}
 use Rattle.catalog_change.specs.Changes.{IsChange}
 use Rattle.room_catalog.specs.Applying.{begun_row, is_among, row_off_gone, with_copy_ended}
-use Rattle.room_catalog.specs.Changing.{HasWholeDigest, changed, purge_each, records_off, sets_off}
+use Rattle.room_catalog.specs.Changing.{HasWholeDigest, changed, records_off, sets_off}
 use Rattle.resource_lists.specs.Changing.{with_each, without_named}
-use Rattle.room_catalog.specs.Fits.{Fits, IsBegun}
+use Rattle.room_catalog.specs.Fits.{Fits}
 use Rattle.room_catalog.specs.Held.{CatalogueLists, CatalogueRoom, Parts, catalogue_of, index_in}
 use Rattle.room_catalog.specs.Ready.{IsReady}
 use Rattle.room_catalog.proofs.Applied.{IsNoPart}

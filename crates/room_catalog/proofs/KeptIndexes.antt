@@ -1,5 +1,5 @@
 -- Indexes stay allowed, and only sets on record have one.
-use Rattle.std.proofs.Common.{◌≡◌, ℕ, ◌+◌, ◌<◌, Bool, true, false, cond, List, [], ◌∷◌, length, Option, Some, None, refl, sym, subst, ap, ◌∙◌, arith}
+use Rattle.std.proofs.Common.{◌≡◌, ℕ, Bool, true, false, cond, List, [], Option, Some, None, refl, sym, subst, ◌∙◌, arith}
 use Rattle.std.specs.Prelude.{◌==◌, IsSomeAnd}
 use Rattle.std.specs.Option.{option_map}
 use Rattle.std.proofs.lemmas.Bool.{true≢false}
@@ -7,12 +7,10 @@ use Rattle.std.proofs.lemmas.Bool.Decides.{nat_tests}
 use Rattle.room_base.specs.declared.numbers.Ssid.{Ssid}
 use Rattle.save_stream.specs.declared.entry.IndexEntry.{IndexEntry}
 use Rattle.media_db.specs.declared.records.Record.{Record}
-use Rattle.media_db.specs.declared.volumes.VolumeRec.{VolumeRec}
-use Rattle.media_db.specs.Edits.{finished}
 use Rattle.media_db.specs.Rows.{find_record}
 use Rattle.catalog_change.specs.Catalogues.{HasIndexes}
 use Rattle.catalog_change.specs.Changes.{AreEntries}
-use Rattle.room_catalog.specs.Applying.{edited_at, index_of_row, is_among, row_off_gone}
+use Rattle.room_catalog.specs.Applying.{edited_at, index_of_row}
 
 no_entries : AreEntries []
 no_entries = record { each = tt; order = tt; count = omega arith }

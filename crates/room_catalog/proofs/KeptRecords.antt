@@ -1,40 +1,39 @@
 -- Records stay allowed when they are edited, added, and removed.
-use Rattle.std.proofs.Common.{◌≡◌, ◌≢◌, ◌⊎◌, ℕ, zero, suc, ◌+◌, ◌<◌, ◌≤◌, Bool, true, false, not, cond, List, [], ◌∷◌, ◌++◌, length, Option, Some, None, refl, sym, subst, ap, ◌∙◌, inl, inr, arith, length-append}
-use Rattle.std.specs.Prelude.{◌&&◌, ◌||◌, ◌==◌, IsSomeAnd}
-use Rattle.std.specs.List.{AllByRecursion, Any, filter, list_any}
+use Rattle.std.proofs.Common.{◌≡◌, ◌≢◌, ℕ, zero, suc, ◌+◌, ◌<◌, ◌≤◌, Bool, true, false, not, cond, List, [], ◌∷◌, ◌++◌, length, Option, Some, None, refl, sym, subst, ap, ◌∙◌, inl, inr, arith, length-append}
+use Rattle.std.specs.Prelude.{◌||◌}
+use Rattle.std.specs.List.{AllByRecursion, Any, list_any}
 use Rattle.std.specs.Ordering.{eq_by_cmp, nat_cmp}
 use Rattle.std.specs.Cmp.{unsigned_ties}
-use Rattle.std.proofs.lemmas.Bool.{cond-true, cond_both, false≢true, true≢false}
+use Rattle.std.proofs.lemmas.Bool.{cond-true, cond_both, false≢true}
 use Rattle.std.proofs.lemmas.Bool.Decides.{nat_tests}
 use Rattle.std.proofs.lemmas.Cmp.{nat_cmp_total}
 use Rattle.room_base.specs.Numbers.{max_moment}
 use Rattle.room_base.specs.declared.numbers.CopyNo.{CopyNo}
 use Rattle.room_base.specs.declared.numbers.Moment.{Moment}
 use Rattle.room_base.specs.declared.numbers.Ssid.{Ssid}
-use Rattle.room_base.specs.Ordered.{Ascends, update_by}
+use Rattle.room_base.specs.Ordered.{Ascends}
 use Rattle.room_base.proofs.OrderedLaws.{each_weaker}
 use Rattle.room_base.proofs.OrderedLists.{ascend_alone}
 use Rattle.room_base.proofs.OrderedUpdates.{ascends_put, ascends_removed, ascends_updated, each_put, each_removed, each_updated}
 use Rattle.save_stream.specs.declared.head.SetHead.{SetHead}
 use Rattle.save_stream.specs.Spelling.{IsHead, head_text}
 use Rattle.save_stream.proofs.Lengths.{length-head_text}
-use Rattle.media_db.specs.declared.copies.CopyState.{CopyState}
 use Rattle.media_db.specs.declared.copies.CopyState.TheVariants as copies
 use Rattle.media_db.specs.declared.copies.Section.{Section}
 use Rattle.media_db.specs.declared.copies.SetCopy.{SetCopy}
 use Rattle.media_db.specs.declared.records.Record.{Record}
 use Rattle.media_db.specs.declared.records.RecordState.{RecordState}
 use Rattle.media_db.specs.declared.records.RecordState.TheVariants as states
-use Rattle.media_db.specs.Edits.{aborted, amended, begun_copy, copies_off, copy_no, drop_copies_on, finished, has_copy_if_complete, has_done, is_complete, is_done, is_done_on, purged_by, with_begun_copy, with_copy_done, with_copy_removed, with_done_copy, without_copies_on, without_copy}
+use Rattle.media_db.specs.Edits.{aborted, amended, begun_copy, copies_off, copy_no, drop_copies_on, finished, has_copy_if_complete, has_done, is_complete, is_done, is_done_on, purged_by, with_begun_copy, with_copy_done, without_copies_on, without_copy}
 use Rattle.media_db.specs.Rows.{find_record, put_row, remove_row, ssid_of, update_row}
 use Rattle.media_db.specs.Streams.{head_of}
 use Rattle.media_db.specs.declared.volumes.VolumeRec.{VolumeRec}
 use Rattle.media_db.proofs.Dropped.{dropped_from}
-use Rattle.catalog_change.specs.Catalogues.{FitState, HasRecords, HasSections, IsCopy, IsDrawn, IsLonger, IsRecord, max_copy, max_number}
+use Rattle.catalog_change.specs.Catalogues.{FitState, HasRecords, IsCopy, IsDrawn, IsLonger, IsRecord, max_copy, max_number}
 use Rattle.catalog_change.specs.Changes.{AreSections, IsCount}
 use Rattle.room_catalog.specs.Applying.{begun_row, with_copy_ended}
 use Rattle.room_catalog.specs.Changing.{purge_each, records_off}
-use Rattle.room_catalog.specs.Fits.{HasCopy, IsBegun, IsComplete, IsCopyFinishable, IsCopyable, IsFinishable}
+use Rattle.room_catalog.specs.Fits.{IsBegun, IsComplete, IsCopyFinishable, IsCopyable, IsFinishable}
 use Rattle.room_catalog.proofs.Updated.{ascends_filtered, ascends_pushed, each_filtered, each_pushed, each_updated_found, length_filtered, length_put, length_removed, length_updated}
 
 -- what is below a next number is below a later one

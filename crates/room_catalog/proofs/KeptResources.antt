@@ -1,5 +1,5 @@
 -- Resources stay allowed when some are added, and when one that nothing needs is dropped.
-use Rattle.std.proofs.Common.{◌≡◌, ◌≢◌, ◌⊎◌, ℕ, zero, suc, ◌+◌, ◌<◌, ◌≤◌, Bool, true, false, not, cond, List, [], ◌∷◌, length, Option, Some, None, IsSome, refl, sym, subst, ap, ◌∙◌, inl, inr, arith}
+use Rattle.std.proofs.Common.{◌≡◌, ◌≢◌, ℕ, zero, suc, ◌+◌, ◌≤◌, Bool, true, false, cond, List, [], ◌∷◌, length, Option, Some, None, refl, sym, subst, ap, ◌∙◌, inl, inr, arith}
 use Rattle.std.specs.Prelude.{codes, filter_map}
 use Rattle.std.specs.List.{AllByRecursion, Any, cons_option}
 use Rattle.std.specs.Option.{is_some, option_or}
@@ -26,9 +26,8 @@ use Rattle.catalog_change.specs.Catalogues.{AreNamed, HasClient, HasPolicies, Ha
 use Rattle.catalog_change.specs.Changes.{IsCount}
 use Rattle.catalog_change.specs.Resources.{IsClient, IsGroup, IsPolicy, IsPool, IsResource, IsSchedule, client_name, group_name, kind_of, name_of, policy_name, pool_name, schedule_name}
 use Rattle.resource_lists.specs.Changing.{with_each, without_named}
-use Rattle.resource_lists.specs.Adding.{AreAddable, AreDistinct, HasResource, IsNamed, IsNotMemberOf, IsNotPolicyOf, IsThere, IsUnused, Refers}
+use Rattle.resource_lists.specs.Adding.{AreAddable, IsNamed, IsNotMemberOf, IsNotPolicyOf, IsThere, IsUnused, Refers}
 use Rattle.room_catalog.specs.Held.{CatalogueLists, catalogue_of}
-use Rattle.resource_lists.specs.Lists.{ResourceLists}
 use Rattle.resource_lists.specs.Kinds.{as_client, as_group, as_policy, as_pool, as_schedule, find_named, put_each, put_named, remove_named}
 use Rattle.room_catalog.proofs.Found.{Apart, found_each, same_name}
 use Rattle.room_catalog.proofs.Kinded.{apart_of, client_says, group_says, policy_says, pool_says, schedule_says}

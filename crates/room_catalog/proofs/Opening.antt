@@ -1,9 +1,8 @@
 -- The catalogue of a room that has just been made is allowed.
-use Rattle.std.proofs.Common.{◌≡◌, ◌≤◌, ◌<◌, ℕ, List, [], ◌∷◌, length, refl, rules, arith, subst, sym}
-use Rattle.std.specs.Prelude.{codes}
+use Rattle.std.proofs.Common.{◌≡◌, ℕ, List, [], ◌∷◌, refl, rules, arith, subst, sym}
 use Rattle.std.proofs.lemmas.Str.{IsUtf8-from_ascii}
 use Rattle.std.proofs.lemmas.List.Elements.{All-from_recursion}
-use Rattle.room_base.specs.Text.{IsName, IsPrintable}
+use Rattle.room_base.specs.Text.{IsPrintable}
 use Rattle.media_db.specs.declared.records.Record.{Record}
 use Rattle.media_db.specs.declared.volumes.VolumeRec.{VolumeRec}
 use Rattle.client_index.specs.declared.index.SetIndex.{SetIndex}

@@ -1,5 +1,5 @@
 -- Entries of which some stand behind the others.
-use Rattle.std.proofs.Common.{◌≡◌, ℕ, zero, suc, ◌-◌, ◌<◌, Bool, true, false, List, [], ◌∷◌, ◌++◌, length, get_or, refl, sym, ap, subst, ◌∙◌, arith}
+use Rattle.std.proofs.Common.{◌≡◌, ℕ, ◌-◌, ◌<◌, true, List, [], ◌∷◌, ◌++◌, length, get_or, refl, sym, ap, ◌∙◌, arith}
 use Rattle.std.specs.Ordering.{is_lt, nat_cmp}
 use Rattle.std.specs.Cmp.Lexicographic.{slice_cmp}
 use Rattle.std.specs.declared.cmp.Ordering.{Ordering}
@@ -7,7 +7,7 @@ use Rattle.std.specs.declared.cmp.Ordering.TheVariants.{Less, Equal, Greater}
 use Rattle.std.proofs.lemmas.Bool.{false≢true}
 use Rattle.save_stream.specs.declared.entry.IndexEntry.{IndexEntry}
 use Rattle.save_stream.specs.Spelling.{PathsAscend, path_of}
-use Rattle.room_base.specs.Ordered.{Ascends, AscendsFrom}
+use Rattle.room_base.specs.Ordered.{AscendsFrom}
 
 -- the last entry, or this one where there is none
 abbrev last_of : IndexEntry → List IndexEntry → IndexEntry

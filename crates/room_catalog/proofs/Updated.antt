@@ -1,14 +1,12 @@
 -- What holds of each item of a list, and of any two, after an update; and how long the list is.
-use Rattle.std.proofs.Common.{◌≡◌, ◌≢◌, ◌⊎◌, ℕ, zero, suc, ◌+◌, ◌<◌, ◌≤◌, Bool, true, false, not, cond, List, [], ◌∷◌, ◌++◌, length, Option, Some, None, refl, sym, subst, ap, ◌∙◌, inl, inr, arith}
+use Rattle.std.proofs.Common.{◌≡◌, ◌≢◌, ℕ, suc, ◌+◌, ◌<◌, ◌≤◌, Bool, not, List, [], ◌∷◌, ◌++◌, length, Some, refl, sym, ap, ◌∙◌, arith}
 use Rattle.std.specs.List.{AllByRecursion, filter}
 use Rattle.std.specs.Cmp.{IsTotalOrder}
 use Rattle.std.specs.Ordering.{eq_by_cmp, is_gt, match_ordering, nat_cmp}
 use Rattle.std.specs.declared.cmp.Ordering.{Ordering}
 use Rattle.std.specs.declared.cmp.Ordering.TheVariants.{Less, Equal, Greater}
 use Rattle.std.proofs.lemmas.Bool.{cond-false, cond-true, cond_both}
-use Rattle.std.proofs.lemmas.Cmp.{nat_cmp_total}
 use Rattle.room_base.specs.Ordered.{Ascends, AscendsFrom, find_by, put_by, remove_by, update_by}
-use Rattle.room_base.proofs.OrderedLaws.{each_weaker}
 use Rattle.room_base.proofs.OrderedLists.{ascend_alone, from_lower}
 use Rattle.room_base.proofs.OrderedNumbers.{compares_less}
 use Rattle.room_base.proofs.OrderedUpdates.{each_put, each_removed}

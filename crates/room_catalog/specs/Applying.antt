@@ -1,7 +1,7 @@
 -- What a change makes of a catalogue, look-up by look-up.
 use Rattle.std.specs.Prelude.{◌≡◌, ℕ, ◌+◌, List, [], ◌∷◌, ◌++◌, replicate, Bool}
 use Rattle.std.specs.Prelude.{Option, Some, None}
-use Rattle.std.specs.Prelude.{true, false, ◌&&◌, ◌==◌, if◌then◌else◌, filter_map, option_map}
+use Rattle.std.specs.Prelude.{false, ◌&&◌, ◌==◌, if◌then◌else◌, filter_map, option_map}
 use Rattle.std.specs.List.{list_any}
 use Rattle.std.specs.Option.{option_and_then, option_or}
 use Rattle.std.specs.Ordering.{eq_by_cmp, nat_cmp}

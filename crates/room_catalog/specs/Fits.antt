@@ -1,21 +1,5 @@
 -- Which changes fit a catalogue, and which fit the parts that wait.
-use Rattle.std.specs.Prelude.{
-  ◌≡◌,
-  ◌≢◌,
-  ◌⊎◌,
-  ℕ,
-  ◌+◌,
-  ◌*◌,
-  ◌≤◌,
-  ◌<◌,
-  List,
-  ◌++◌,
-  length,
-  Option,
-  None,
-  IsSome,
-  IsSomeAnd,
-}
+use Rattle.std.specs.Prelude.{◌≡◌, ◌≢◌, ◌⊎◌, ℕ, ◌*◌, ◌≤◌, ◌<◌, List, ◌++◌, length, Option, None, IsSome, IsSomeAnd}
 use Rattle.std.specs.List.{Any, AllByRecursion}
 use Rattle.std.specs.Ordering.{nat_cmp}
 use Rattle.room_base.specs.Numbers.{max_moment}

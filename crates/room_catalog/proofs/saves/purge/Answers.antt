@@ -1,4 +1,4 @@
-use Rattle.std.proofs.Common.{◌≡◌, ◌∙◌, List, get_or, refl, sym, ap, arith}
+use Rattle.std.proofs.Common.{◌∙◌, List, get_or, refl, sym, ap, arith}
 use Rattle.media_db.specs.declared.records.Record.{Record}
 use Rattle.media_db.specs.Edits.{purged_by}
 use Rattle.media_db.specs.Rows.{Database, update_row}

@@ -4,10 +4,9 @@ use Rattle.catalog_change.specs.declared.change.Change.{Change}
 use Rattle.catalog_change.specs.declared.change.Change.TheVariants.{Finished}
 use Rattle.catalog_change.specs.Catalogues.{IsCatalogue}
 use Rattle.catalog_change.specs.Changes.{IsEntry}
-use Rattle.room_catalog.specs.Applying.{Applies, parts_after}
-use Rattle.room_catalog.specs.Fits.{Fits, FitsByKind}
+use Rattle.room_catalog.specs.Fits.{Fits}
 use Rattle.room_catalog.specs.Held.{CatalogueLists, Parts, catalogue_of}
-use Rattle.room_catalog.specs.Ready.{IsReady, TakesRoom}
+use Rattle.room_catalog.specs.Ready.{IsReady}
 use Rattle.room_catalog.specs.Views.{held_of}
 use Rattle.room_catalog.proofs.Applied.{IsNoPart, applied_to, closed_to, is_no_part, no_parts_after, parts_stay, takes_from_more}
 use Rattle.room_catalog.proofs.KeptCatalogue.{stays_allowed}
