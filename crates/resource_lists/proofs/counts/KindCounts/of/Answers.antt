@@ -1,6 +1,5 @@
-use Rattle.std.proofs.Common.{◌∙◌, ap, sym, subst, take, length-take, arith}
-use Rattle.std.proofs.lemmas.List.{take_all}
-use Rattle.resource_lists.specs.Counts.{AreBelow, counted}
+use Rattle.std.proofs.Common.{sym, subst, take, length-take, arith}
+use Rattle.resource_lists.specs.Counts.{AreBelow}
 use Rattle.resource_lists.proofs.Counting.{counted_below, counted_more}
 use Rattle.resource_lists.proofs.counts.KindCounts.of.Goals as goal
 

@@ -1,6 +1,4 @@
-use Rattle.std.proofs.Common.{◌≡◌, ◌∙◌, List, [], ◌∷◌, length, subst, sym, ap, arith}
-use Rattle.std.specs.Vec.Iter.{into_iter_items, into_iter_len}
-use Rattle.catalog_change.specs.declared.resource.Resource.{Resource}
+use Rattle.std.proofs.Common.{◌≡◌, ◌∙◌, length, subst, sym, ap, arith}
 use Rattle.resource_lists.specs.Room.{HasRoomFor}
 use Rattle.resource_lists.proofs.Defining.{Adds, adds_all, adds_none, adds_one, room_for_first}
 use Rattle.resource_lists.proofs.resources.Resources.define.Goals as goal
