@@ -4,15 +4,25 @@ use Rattle.catalog_change.specs.declared.change.Change.TheVariants.{IndexPart}
 use Rattle.room_catalog.specs.Held.{CatalogueRoom, HeldCatalogue}
 use Rattle.room_catalog.specs.Ready.{IsReady}
 use Rattle.save_session.specs.Sessions.{PartRoom, IsOpen, room_for}
-use Rattle.room_effects.specs.View.{RoomView}
-use Rattle.room_effects.specs.Effects.{Effect, Enter, EnterPart, Push, entry_bytes, part_bytes}
+use Rattle.room_effects.specs.View.{RoomView, held_in}
+use Rattle.room_effects.specs.Effects.{
+  Effect,
+  Enter,
+  EnterPart,
+  Commit,
+  Push,
+  ended_with,
+  entry_bytes,
+  part_bytes,
+}
 
--- what fits in the catalogue, how many more parts fit in each session, and how long an entry of the
--- journal may be
+-- what fits in the catalogue, how many more parts fit in each session, how long an entry of the
+-- journal may be, and how many sessions a failed commit may close
 pub record RoomMemory : Type 0 where
   pub catalogue : CatalogueRoom
   pub parts : List PartRoom
   pub entry : ℕ
+  pub closed : ℕ
 
 -- a room in memory
 pub record HeldRoom : Type 0 where
@@ -32,4 +42,7 @@ HasMemoryFor (EnterPart m ssid part index) held =
     × (length (part_bytes m ssid part index) ≤ held.memory.entry)
 HasMemoryFor (Push drive ssid copy offset bytes) held =
     IsOpen ssid held.room.sessions → 0 < room_for ssid held.memory.parts
+HasMemoryFor (Commit drive asking) held =
+    length (ended_with (held_in held.room drive) asking held.room.sessions)
+    ≤ held.memory.closed
 HasMemoryFor _ held = Unit {0}

@@ -11,7 +11,9 @@ use Rattle.volume_store.specs.Committed.{CommittedFile, Closed, Committed, Label
 use Rattle.volume_store.specs.Writes.{IsCart, cart_file}
 use Rattle.cat_journal.specs.Images.{IsJournal}
 use Rattle.catalog_change.specs.declared.change.Change.{Change}
+use Rattle.catalog_change.specs.declared.change.Change.TheVariants.{IndexPart}
 use Rattle.catalog_text.specs.Changes.{Stamped}
+use Rattle.catalog_text.specs.Decoding.{IsStamped}
 use Rattle.room_catalog.specs.Held.{CatalogueLists}
 use Rattle.slot_changer.specs.Committing.{cart_file_of}
 use Rattle.slot_changer.specs.Drives.{DriveView, IsDrive}
@@ -19,6 +21,7 @@ use Rattle.room_effects.specs.View.{RoomView, held_in}
 use Rattle.room_effects.specs.Effects.{
   Effect,
   Enter,
+  EnterPart,
   Look,
   Commit,
   PutIn,
@@ -36,6 +39,7 @@ use Rattle.room_effects.specs.Effects.{
 }
 use Rattle.room_effects.specs.Files.{IsSeen, Touches, Torn, Whole, is_on, target}
 use Rattle.room_effects.specs.Faults.{fault_of}
+use Rattle.room_effects.specs.Needs.{CanDo}
 
 -- ---- deeds over the files
 
@@ -69,10 +73,21 @@ AreAllowed Allows (deed ∷ deeds) room image = Allows (effect_of deed) room ima
 
 -- ---- who may do what, what failed, and what was entered
 
--- each deed is done in an open room, so that nothing follows a broken entry
-abbrev pub AllOpen : List Deed → RoomView → Type 0
-AllOpen [] room = Unit {0}
-AllOpen (deed ∷ deeds) room = IsTrue room.is_open × AllOpen deeds (after deed room)
+-- each deed can be done in the room as it is then, so that nothing follows a broken entry
+abbrev pub AllCan : List Deed → RoomView → Type 0
+AllCan [] room = Unit {0}
+AllCan (deed ∷ deeds) room = CanDo (effect_of deed) room × AllCan deeds (after deed room)
+
+-- What is written of a change, or of a part, can be read again: its numbers are in the ranges of
+-- their types, which the call that spells it knows.
+abbrev pub IsWritten : Effect → Type 0
+IsWritten (Enter m change) = IsStamped m.0 change
+IsWritten (EnterPart m ssid part index) = IsStamped m.0 (IndexPart ssid part index)
+IsWritten _ = Unit {0}
+
+abbrev pub AreWritten : List Deed → Type 0
+AreWritten [] = Unit {0}
+AreWritten (deed ∷ deeds) = IsWritten (effect_of deed) × AreWritten deeds
 
 -- each deed is a read that was done: it leaves the room and the files as they are
 abbrev pub AreLooks : List Deed → Type 0
@@ -202,7 +217,8 @@ risen_by times count = min (count + times) (2 ^ 64 - 1)
 pub record Performed (deeds : List Deed) (old new : RoomView) (before now : DiskView)
     : Type 0 where
   pub room : new ≡ after_all deeds old
-  pub opens : AllOpen deeds old
+  pub can : AllCan deeds old
+  pub written : AreWritten deeds
   pub tells : now.tells ≡ before.tells
   pub faults : (file : ℕ)
       → risen_by (failures file deeds old) (before.faults file) ≤ now.faults file

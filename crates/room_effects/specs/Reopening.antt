@@ -1,0 +1,100 @@
+-- What the files of a journal reopen as: the catalogue that a snapshot and the entries behind it
+-- give. How a snapshot is spelled is an argument.
+use Rattle.std.specs.Prelude.{◌≡◌, ℕ, ◌≤◌, List, [], ◌∷◌, length, take}
+use Rattle.room_disk.specs.Disk.{Image}
+use Rattle.cat_journal.specs.Contents.{Contents}
+use Rattle.cat_journal.specs.Meaning.{Meaning, Means, Unopened, Damaged, Stands}
+use Rattle.catalog_change.specs.declared.change.Change.{Change}
+use Rattle.catalog_change.specs.declared.change.Change.TheVariants.{IndexPart}
+use Rattle.catalog_text.specs.Changes.{Stamped}
+use Rattle.catalog_text.specs.Decoding.{ChangeText}
+use Rattle.room_catalog.specs.Held.{CatalogueLists, catalogue_of, no_parts, opening_catalogue}
+use Rattle.room_effects.specs.View.{RoomView}
+use Rattle.room_effects.specs.Effects.{
+  Effect,
+  TurnOver,
+  Deed,
+  after,
+  catalogue_after,
+  effect_of,
+  with_part_waiting,
+}
+use Rattle.room_effects.specs.Running.{catalogue_behind}
+
+-- ---- entries
+
+-- the catalogue behind an entry: a part waits, and a change is applied
+abbrev pub behind_told : ℕ → Change → CatalogueLists → CatalogueLists
+behind_told moment (IndexPart ssid part index) lists = with_part_waiting ssid part index lists
+behind_told moment change lists = catalogue_after (record { 0 = moment }) change lists
+
+abbrev pub behind_entries : List Stamped → CatalogueLists → CatalogueLists
+behind_entries [] lists = lists
+behind_entries (one ∷ more) lists = behind_entries more (behind_told one.moment one.change lists)
+
+-- each payload is the text of its entry
+abbrev pub AreTexts : List (List ℕ) → List Stamped → Type 0
+AreTexts [] [] = Unit {0}
+AreTexts (payload ∷ payloads) (one ∷ entries) =
+    ChangeText payload one.moment one.change × AreTexts payloads entries
+AreTexts payloads entries = ⊥
+
+-- ---- files
+
+-- the contents of a journal file give a catalogue: that of the snapshot, behind the entries
+pub record GiveCatalogue (IsSnapshot : CatalogueLists → List ℕ → Type 0) (contents : Contents)
+    (lists : CatalogueLists) : Type 0 where
+  pub first : CatalogueLists
+  pub snapshot : IsSnapshot first contents.snapshot
+  pub number : first.number ≡ contents.head.number
+  pub entries : List Stamped
+  pub texts : AreTexts contents.payloads entries
+  pub is : lists ≡ behind_entries entries first
+
+-- where no journal file is open, the opening catalogue
+abbrev pub MeansCatalogue : (CatalogueLists → List ℕ → Type 0) → Meaning → CatalogueLists → Type 0
+MeansCatalogue IsSnapshot Unopened lists =
+    (catalogue_of lists ≡ opening_catalogue) × (lists.parts ≡ no_parts)
+MeansCatalogue IsSnapshot (Damaged file place) lists = ⊥
+MeansCatalogue IsSnapshot (Stands file contents) lists = GiveCatalogue IsSnapshot contents lists
+
+-- the files reopen as this catalogue
+pub record Reopens (IsSnapshot : CatalogueLists → List ℕ → Type 0) (files : Image)
+    (lists : CatalogueLists) : Type 0 where
+  pub meaning : Meaning
+  pub means : Means files meaning
+  pub gives : MeansCatalogue IsSnapshot meaning lists
+
+-- ---- runs
+
+-- a catalogue, but for the parts that wait
+abbrev pub without_parts : CatalogueLists → CatalogueLists
+without_parts lists = record lists { parts = no_parts }
+
+-- the files reopen as the catalogue after the first so many of these changes; whatever parts of an
+-- index wait then
+pub record ReopensAfterSome (IsSnapshot : CatalogueLists → List ℕ → Type 0)
+    (changes : List Stamped) (lists : CatalogueLists) (files : Image) : Type 0 where
+  pub count : ℕ
+  pub within : count ≤ length changes
+  pub reopened : CatalogueLists
+  pub reopens : Reopens IsSnapshot files reopened
+  pub is : without_parts reopened
+      ≡ without_parts (catalogue_behind (take count changes) lists)
+
+-- the snapshot behind which the journal goes on is that of the catalogue, without parts
+abbrev pub HasItsSnapshot : (CatalogueLists → List ℕ → Type 0) → Effect → RoomView → Type 0
+HasItsSnapshot IsSnapshot (TurnOver snapshot) room =
+    IsSnapshot (without_parts room.catalogue) snapshot
+HasItsSnapshot IsSnapshot _ room = Unit {0}
+
+abbrev pub HaveSnapshots : (CatalogueLists → List ℕ → Type 0) → List Deed → RoomView → Type 0
+HaveSnapshots IsSnapshot [] room = Unit {0}
+HaveSnapshots IsSnapshot (deed ∷ deeds) room =
+    HasItsSnapshot IsSnapshot (effect_of deed) room
+    × HaveSnapshots IsSnapshot deeds (after deed room)
+
+-- the same catalogue, and the same parts wait: a set with an index without entries is as one
+-- without
+abbrev pub AreAlike : CatalogueLists → CatalogueLists → Type 0
+AreAlike one other = (catalogue_of one ≡ catalogue_of other) × (one.parts ≡ other.parts)

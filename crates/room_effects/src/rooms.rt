@@ -1,0 +1,57 @@
+//! Laws of rooms: each function has an empty body, and its contract is the law.
+
+ghost use Rattle.std.specs.Prelude.{◌≡◌, ℕ, List, Option, IfSome, length};
+ghost use Rattle.room_base.specs.declared.numbers.Moment.{Moment};
+ghost use Rattle.room_base.specs.declared.numbers.Ssid.{Ssid};
+ghost use Rattle.save_stream.specs.Standing.{AreBytes};
+ghost use Rattle.save_stream.specs.declared.entry.IndexEntry.{IndexEntry};
+ghost use Rattle.save_stream.specs.declared.head.SetHead.{SetHead};
+ghost use Rattle.cat_journal.specs.Journal.{IsKnown};
+ghost use Rattle.volume_store.specs.declared.commit.Volume.{Volume};
+ghost use Rattle.catalog_change.specs.declared.change.Change.{Change};
+ghost use Rattle.room_catalog.specs.Invariant.{IsHeld};
+ghost use Rattle.save_session.specs.Sessions.{find_session};
+ghost use Rattle.room_effects.specs.View.{RoomView, IsRoom};
+ghost use Rattle.room_effects.specs.Effects.{Effect, after_broken, after_done, catalogue_after};
+ghost use Rattle.room_effects.specs.Effects.{Enter, EnterPart, TurnOver, Commit, Push, PutIn};
+ghost use Rattle.room_effects.specs.Effects.{TakeOut, Open, Take, Close};
+ghost use Rattle.room_effects.specs.Needs.{CanDo, IsTaken};
+
+/// A room stays one behind each effect that it can do. Of an entry it is known besides that the
+/// journal's next gate has a place, as it is where the entry was written; of a change that the
+/// catalogue behind it is one that there can be; of a piece that the session's reader takes it.
+pub fn rooms_stay()
+    ensures enter { (m : Moment) (change : Change) (room : RoomView) → IsRoom room
+        → CanDo (Enter m change) room → IsHeld (catalogue_after m change room.catalogue)
+        → IsKnown (after_done (Enter m change) room).journal.current
+        → IsRoom (after_done (Enter m change) room) }
+    ensures part { (m : Moment) (ssid : Ssid) (part : ℕ) (index : List IndexEntry)
+        (room : RoomView) → IsRoom room → CanDo (EnterPart m ssid part index) room
+        → IsKnown (after_done (EnterPart m ssid part index) room).journal.current
+        → IsRoom (after_done (EnterPart m ssid part index) room) }
+    ensures turn_over { (snapshot : List ℕ) (room : RoomView) → IsRoom room
+        → CanDo (TurnOver snapshot) room → IsRoom (after_done (TurnOver snapshot) room) }
+    ensures commit { (drive : ℕ) (asking : Option ℕ) (room : RoomView) → IsRoom room
+        → CanDo (Commit drive asking) room → IsRoom (after_done (Commit drive asking) room) }
+    ensures push { (drive ssid copy offset : ℕ) (bytes : List ℕ) (room : RoomView) → IsRoom room
+        → CanDo (Push drive ssid copy offset bytes) room
+        → IsRoom (after_done (Push drive ssid copy offset bytes) room) }
+    ensures put_in { (drive : ℕ) (volume : Volume) (room : RoomView) → IsRoom room
+        → CanDo (PutIn drive volume) room → IsRoom (after_done (PutIn drive volume) room) }
+    ensures take_out { (drive : ℕ) (room : RoomView) → IsRoom room
+        → CanDo (TakeOut drive) room → IsRoom (after_done (TakeOut drive) room) }
+    ensures begins { (head : SetHead) (room : RoomView) → IsRoom room
+        → CanDo (Open head) room → IsRoom (after_done (Open head) room) }
+    ensures take { (ssid : ℕ) (piece : List ℕ) (room : RoomView) → IsRoom room
+        → CanDo (Take ssid piece) room → AreBytes piece
+        → IfSome (find_session ssid room.sessions) (IsTaken piece)
+        → IsRoom (after_done (Take ssid piece) room) }
+    ensures close { (ssid : ℕ) (room : RoomView) → IsRoom room
+        → CanDo (Close ssid) room → IsRoom (after_done (Close ssid) room) }
+{}
+
+/// A room stays one where an effect that it can do fails.
+pub fn rooms_stay_behind_a_fault()
+    ensures { (effect : Effect) (room : RoomView) → IsRoom room → CanDo effect room
+        → IsRoom (after_broken effect room) }
+{}
