@@ -4,12 +4,13 @@ use Rattle.room_base.specs.declared.numbers.Moment.{Moment}
 use Rattle.catalog_change.specs.declared.change.Change.{Change}
 use Rattle.catalog_change.specs.declared.change.Change.TheVariants.{Defined, Dropped, Loaded, Ejected, Labelled, Begun, Finished, Aborted, Amended, Deleted, Purged, CopyBegun, CopyDone, IndexPart, FinishedParts}
 use Rattle.catalog_text.specs.Changes.{Stamped}
-use Rattle.room_catalog.specs.Changing.{changed}
+use Rattle.room_catalog.specs.Changing.{changed, catalogue_after, with_index, without_parts}
 use Rattle.room_catalog.specs.Held.{CatalogueLists, Parts, no_parts}
 use Rattle.room_effects.specs.View.{RoomView}
-use Rattle.room_effects.specs.Effects.{Broken, Close, Commit, Deed, Done, Effect, Enter, EnterPart, Look, Open, Push, PutIn, Take, TakeOut, TurnOver, WriteLabel, after, catalogue_after, effect_of, with_index}
+use Rattle.room_effects.specs.Effects.{Broken, Close, Commit, Deed, Done, Effect, Enter, EnterPart}
+use Rattle.room_effects.specs.Effects.{Look, Open, Push, PutIn, Take, TakeOut, TurnOver, WriteLabel}
+use Rattle.room_effects.specs.Effects.{after, effect_of}
 use Rattle.room_effects.specs.Running.{catalogue_behind, entered, trail}
-use Rattle.room_effects.specs.Reopening.{without_parts}
 
 -- it doesn't close parts
 abbrev pub IsIndexed : Change → Type 0

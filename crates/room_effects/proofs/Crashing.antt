@@ -20,11 +20,14 @@ use Rattle.catalog_text.specs.Changes.{Stamped}
 use Rattle.catalog_text.specs.Decoding.{IsStamped}
 use Rattle.room_catalog.specs.Held.{CatalogueLists}
 use Rattle.room_effects.specs.View.{RoomView}
-use Rattle.room_effects.specs.Effects.{Broken, Enter, EnterPart, TurnOver, after_done, catalogue_after, entry_bytes, is_at_last, part_bytes, turned as turned_by, with_part_waiting}
+use Rattle.room_effects.specs.Effects.{Broken, Enter, EnterPart, TurnOver, after_done, entry_bytes}
+use Rattle.room_effects.specs.Effects.{is_at_last, part_bytes, turned as turned_by}
+use Rattle.room_catalog.specs.Changing.{catalogue_after, with_part_waiting, without_parts}
 use Rattle.room_effects.specs.Files.{MayTurnOver, Torn, Touches, TurnsOver, Whole, file_or_none, target}
 use Rattle.room_effects.specs.Needs.{CanDo, IsWholeChange}
 use Rattle.room_effects.specs.Running.{entered}
-use Rattle.room_effects.specs.Reopening.{GiveCatalogue, HasItsSnapshot, Reopens, ReopensAfterSome, behind_told, without_parts}
+use Rattle.room_effects.specs.Reopening.{GiveCatalogue, HasItsSnapshot, Reopens, ReopensAfterSome}
+use Rattle.room_effects.specs.Reopening.{behind_told}
 use Rattle.room_effects.proofs.Changing.{after_indexed}
 use Rattle.room_effects.proofs.Entering.{entry_is_part, entry_is_whole, last_is_not, turned_last, turned_on, turned_room}
 use Rattle.room_effects.proofs.Journals.{next_in_range, next_is}

@@ -16,7 +16,8 @@ use Rattle.room_effects.specs.Effects.{Broken, Close, Commit, Deed, Done, Effect
 use Rattle.room_effects.specs.Files.{Commits, MayCommit, Torn, Touches, Whole, file_or_none, target}
 use Rattle.room_effects.specs.Needs.{CanDo}
 use Rattle.room_effects.specs.Running.{AllCan, AreWritten, Crashed, IsWritten, Led, catalogue_behind, entered, trail}
-use Rattle.room_effects.specs.Reopening.{HasItsSnapshot, HaveSnapshots, Reopens, ReopensAfterSome, without_parts}
+use Rattle.room_effects.specs.Reopening.{HasItsSnapshot, HaveSnapshots, Reopens, ReopensAfterSome}
+use Rattle.room_catalog.specs.Changing.{without_parts}
 use Rattle.room_effects.proofs.Changing.{AreIndexed, after_indexed, behind_bare, entered_by, indexed_take, trail_indexed}
 use Rattle.room_effects.proofs.Crashing.{enter_cut, enter_stands, kept_same, part_cut, part_stands, reopens_before, turn_over_cut, turn_over_stands}
 use Rattle.room_effects.proofs.Driving.{held_and}

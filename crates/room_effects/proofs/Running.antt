@@ -7,27 +7,10 @@ use Rattle.room_catalog.specs.Held.{CatalogueLists}
 use Rattle.catalog_text.specs.Changes.{Stamped}
 use Rattle.slot_changer.specs.Drives.{DriveView}
 use Rattle.room_effects.specs.View.{RoomView, held_in}
-use Rattle.room_effects.specs.Effects.{
-  Effect,
-  Enter,
-  EnterPart,
-  TurnOver,
-  Commit,
-  Look,
-  WriteLabel,
-  Push,
-  PutIn,
-  TakeOut,
-  Open,
-  Take,
-  Close,
-  Deed,
-  after,
-  after_all,
-  catalogue_after,
-  effect_of,
-  is_at_last,
-}
+use Rattle.room_effects.specs.Effects.{Effect, Enter, EnterPart, TurnOver, Commit, Look, WriteLabel}
+use Rattle.room_effects.specs.Effects.{Push, PutIn, TakeOut, Open, Take, Close, Deed, after}
+use Rattle.room_effects.specs.Effects.{after_all, effect_of, is_at_last}
+use Rattle.room_catalog.specs.Changing.{catalogue_after}
 use Rattle.room_effects.specs.Files.{MayCommit, MayTurnOver, Torn, Touches, target}
 use Rattle.room_effects.specs.Running.{AllCan, AreWritten, AreAllowed, AreFounded, Crashed, Known, Led, catalogue_behind, entered, failures, known_behind, known_behind_all, trail}
 

@@ -13,11 +13,14 @@ use Rattle.cat_journal.specs.declared.current.CurrentFile.{CurrentFile}
 use Rattle.catalog_change.specs.Changes.{IsEntry}
 use Rattle.catalog_change.specs.declared.change.Change.{Change}
 use Rattle.catalog_change.specs.declared.change.Change.TheVariants.{Defined, Dropped, Loaded, Ejected, Labelled, Begun, Finished, Aborted, Amended, Deleted, Purged, CopyBegun, CopyDone, IndexPart, FinishedParts}
-use Rattle.room_catalog.specs.Changing.{changed}
+use Rattle.room_catalog.specs.Changing.{changed, catalogue_after, with_index, with_part_waiting}
 use Rattle.room_catalog.specs.Held.{CatalogueLists, no_parts}
 use Rattle.room_catalog.specs.Invariant.{IsHeld}
 use Rattle.room_effects.specs.View.{RoomView, IsEmptied, IsJournalOf, IsRoom}
-use Rattle.room_effects.specs.Effects.{Effect, Enter, EnterPart, TurnOver, Commit, Look, WriteLabel, Push, PutIn, TakeOut, Open, Take, Close, Seen, after_broken, after_done, behind_change, behind_part, catalogue_after, entry_bytes, is_at_last, part_bytes, turned, with_index, with_part_waiting}
+use Rattle.room_effects.specs.Effects.{Effect, Enter, EnterPart, TurnOver, Commit, Look, WriteLabel}
+use Rattle.room_effects.specs.Effects.{Push, PutIn, TakeOut, Open, Take, Close, Seen, after_broken}
+use Rattle.room_effects.specs.Effects.{after_done, behind_change, behind_part, entry_bytes}
+use Rattle.room_effects.specs.Effects.{is_at_last, part_bytes, turned}
 use Rattle.room_effects.specs.Needs.{CanDo}
 use Rattle.room_effects.proofs.Entering.{last_is_not, turned_last, turned_on}
 use Rattle.room_effects.proofs.Journals.{next_in_range, next_is, range_of}

@@ -21,7 +21,7 @@ use Rattle.catalog_change.specs.declared.change.Change.TheVariants.{
 }
 use Rattle.catalog_text.specs.Changes.{change_text}
 use Rattle.room_catalog.specs.Applying.{with_part}
-use Rattle.room_catalog.specs.Changing.{changed}
+use Rattle.room_catalog.specs.Changing.{changed, catalogue_after, with_part_waiting}
 use Rattle.room_catalog.specs.Held.{CatalogueLists, Parts, no_parts}
 use Rattle.slot_changer.specs.Drives.{
   DriveView,
@@ -86,24 +86,6 @@ pub data Deed : Type 0 where
 abbrev pub effect_of : Deed → Effect
 effect_of (Done effect) = effect
 effect_of (Broken effect) = effect
-
--- ---- the catalogue
-
--- the change with the index that the parts before it hold
-abbrev pub with_index : Parts → Change → Change
-with_index parts (FinishedParts ssid files bytes digest sections) =
-    Finished ssid files bytes digest sections parts.entries
-with_index parts change = change
-
--- the catalogue after a change that isn't a part: no part waits then
-abbrev pub catalogue_after : Moment → Change → CatalogueLists → CatalogueLists
-catalogue_after m change lists = record
-    (changed (lists.number + 1) m (with_index lists.parts change) lists) { parts = no_parts }
-
--- the catalogue with one part more that waits
-abbrev pub with_part_waiting : Ssid → ℕ → List IndexEntry → CatalogueLists → CatalogueLists
-with_part_waiting ssid part index lists =
-    record lists { parts = with_part ssid part index lists.parts }
 
 -- ---- the journal
 

@@ -10,15 +10,8 @@ use Rattle.catalog_text.specs.Changes.{Stamped}
 use Rattle.catalog_text.specs.Decoding.{ChangeText}
 use Rattle.room_catalog.specs.Held.{CatalogueLists, catalogue_of, no_parts, opening_catalogue}
 use Rattle.room_effects.specs.View.{RoomView}
-use Rattle.room_effects.specs.Effects.{
-  Effect,
-  TurnOver,
-  Deed,
-  after,
-  catalogue_after,
-  effect_of,
-  with_part_waiting,
-}
+use Rattle.room_effects.specs.Effects.{Effect, TurnOver, Deed, after, effect_of}
+use Rattle.room_catalog.specs.Changing.{catalogue_after, with_part_waiting, without_parts}
 use Rattle.room_effects.specs.Running.{catalogue_behind}
 
 -- ---- entries
@@ -66,10 +59,6 @@ pub record Reopens (IsSnapshot : CatalogueLists → List ℕ → Type 0) (files 
   pub gives : MeansCatalogue IsSnapshot meaning lists
 
 -- ---- runs
-
--- a catalogue, but for the parts that wait
-abbrev pub without_parts : CatalogueLists → CatalogueLists
-without_parts lists = record lists { parts = no_parts }
 
 -- the files reopen as the catalogue after the first so many of these changes; whatever parts of an
 -- index wait then

@@ -33,10 +33,9 @@ use Rattle.room_effects.specs.Effects.{
   Broken,
   after,
   after_all,
-  catalogue_after,
   effect_of,
-  with_index,
 }
+use Rattle.room_catalog.specs.Changing.{catalogue_after, with_index}
 use Rattle.room_effects.specs.Files.{IsSeen, Touches, Torn, Whole, is_on, target}
 use Rattle.room_effects.specs.Faults.{fault_of}
 use Rattle.room_effects.specs.Needs.{CanDo}
