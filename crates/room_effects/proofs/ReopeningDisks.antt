@@ -1,22 +1,21 @@
 -- What the journal's files on a disk reopen as, while deeds are done and after them.
-use Rattle.std.proofs.Common.{◌≡◌, ℕ, List, [], ◌∷◌, ◌++◌, Ok, Err, Result, refl, sym, ap, ◌∙◌, subst}
+use Rattle.std.proofs.Common.{◌≡◌, ℕ, List, [], ◌∷◌, ◌++◌, refl, sym, ap, ◌∙◌, subst}
 use Rattle.std.specs.Prelude.{IsTrue}
 use Rattle.room_disk.specs.Disk.{DiskView, Image, Images, IsDisk, Leaves}
 use Rattle.room_disk.proofs.Runs.{leaves_weaker}
-use Rattle.cat_journal.specs.Contents.{Contents}
 use Rattle.cat_journal.specs.Images.{IsJournal}
-use Rattle.cat_journal.specs.Journal.{JournalView, KnowsFiles}
+use Rattle.cat_journal.specs.Journal.{JournalView}
 use Rattle.cat_journal.specs.Meaning.{Damaged, Meaning, Stands, Unopened}
 use Rattle.cat_journal.proofs.OneMeaning.{one_meaning}
 use Rattle.catalog_change.specs.declared.change.Change.{Change}
-use Rattle.catalog_text.specs.Changes.{Stamped, change_text}
+use Rattle.catalog_text.specs.Changes.{Stamped}
 use Rattle.catalog_text.specs.Decoding.{ChangeText}
 use Rattle.catalog_text.proofs.ChangeTexts.{one-change}
 use Rattle.room_catalog.specs.Held.{CatalogueLists, catalogue_of}
 use Rattle.room_effects.specs.View.{RoomView, IsRoom}
-use Rattle.room_effects.specs.Effects.{Deed, after_all}
-use Rattle.room_effects.specs.Running.{AreFounded, Crashed, FromOne, Known, Led, Performed, Ready, trail}
-use Rattle.room_effects.specs.Reopening.{AreAlike, AreTexts, GiveCatalogue, HaveSnapshots, MeansCatalogue, Reopens, ReopensAfterSome, behind_entries}
+use Rattle.room_effects.specs.Effects.{Deed}
+use Rattle.room_effects.specs.Running.{AreFounded, Crashed, FromOne, Known, Performed, Ready, trail}
+use Rattle.room_effects.specs.Reopening.{AreAlike, AreTexts, HaveSnapshots, MeansCatalogue, Reopens, ReopensAfterSome, behind_entries}
 use Rattle.room_effects.proofs.Journals.{knows_alike}
 use Rattle.room_effects.proofs.Reopening.{crash_reopens, end_reopens}
 use Rattle.room_effects.proofs.Standing.{KeepsJournal, reopens_kept}

@@ -1,6 +1,5 @@
 -- The journal's files stand as the room knows them, and give its catalogue.
 use Rattle.std.proofs.Common.{◌≡◌, ℕ, ◌≤◌, List, [], ◌∷◌, ◌++◌, refl, sym, ap, ◌∙◌, subst, arith}
-use Rattle.std.proofs.lemmas.List.{map-append}
 use Rattle.std.specs.Prelude.{Option, Some, None, IsSome}
 use Rattle.room_disk.specs.Disk.{Image}
 use Rattle.cat_journal.specs.Contents.{Contents, with_payload}
