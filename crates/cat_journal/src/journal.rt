@@ -2,6 +2,7 @@
 
 ghost use Rattle.std.specs.Prelude.{◌≡◌, ◌==◌, ◌≤◌, ◌<◌, ◌+◌, ◌-◌, ◌^◌, [], ◌∷◌, ◌++◌, max, length, None};
 ghost use Rattle.std.specs.Prelude.{IfOk, IsOk, OnOk, OnErr, MatchOption};
+ghost use Rattle.std.specs.Option.{is_some};
 ghost use Rattle.room_base.specs.Outside.{Told};
 ghost use Rattle.room_disk.specs.Disk.{Leaves};
 ghost use Rattle.room_disk.specs.Crash.{Overlays, GatedTorn, IsAnew, AnewTorn};
@@ -82,6 +83,14 @@ impl Journal {
             Some(current) => current.form,
             None => FORM,
         }
+    }
+
+    /// Whether a file is open. Only an open one takes entries.
+    pub fn is_open(&self) -> bool
+        ensures open { result ≡ is_some self.now.current }
+        ensures known { IsKnown self.now.current }
+    {
+        self.current.is_some()
     }
 
     /// Whether the current file has the last generation, so that a turn-over writes nothing.

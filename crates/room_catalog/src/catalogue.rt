@@ -12,6 +12,7 @@ ghost use Rattle.room_catalog.specs.Changing.{lists_after, without_parts};
 ghost use Rattle.room_catalog.specs.Fits.{Fits, FitsParts, find_slot};
 ghost use Rattle.resource_lists.specs.Adding.{StayWithin};
 ghost use Rattle.room_catalog.specs.Held.{catalogue_of, no_parts, opening_catalogue};
+ghost use Rattle.room_catalog.specs.Invariant.{IsHeld};
 ghost use Rattle.resource_lists.specs.Kinds.{find_named};
 ghost use Rattle.room_catalog.specs.Ready.{IsReady, KeepsRoom, TakesRoom};
 
@@ -77,6 +78,7 @@ impl Catalogue {
     pub fn number(&self) -> u64
         ensures number { result ≡ self.now.lists.number }
         ensures allowed { IsCatalogue (catalogue_of self.now.lists) }
+        ensures held { IsHeld self.now.lists }
     {
         self.kept.number
     }
