@@ -1,7 +1,5 @@
 -- The fields of a room's state as contracts see them.
-use Rattle.std.specs.Prelude.{min, vec_capacity, Option}
-use Rattle.std.specs.Option.{option_map}
-use Rattle.room_base.specs.declared.numbers.Ssid.{Ssid}
+use Rattle.std.specs.Prelude.{min, vec_capacity}
 use Rattle.cat_journal.specs.Journal.{JournalView}
 use Rattle.room_effects.specs.View.{IsRoom}
 use Rattle.room_effects.specs.Memory.{HeldRoom}

@@ -99,18 +99,21 @@ fn list_ended(
     closed.clear();
     let ssids = sessions.ssids();
     for ssid in ssids {
-        if drives.holds(drive, *ssid) || is_asking(asking, *ssid) {
+        if goes(drives, drive, asking, *ssid) {
             closed.push(*ssid).unwrap();
         }
     }
 }
 
-fn is_asking(asking: Option<Ssid>, ssid: Ssid) -> bool
-    ensures { result ≡ is_asking (asking_number asking) ssid.0 }
+// Whether a session goes with the failed commit of a drive: it has chunks in the buffer, or asked.
+fn goes(drives: &Drives, drive: u8, asking: Option<Ssid>, ssid: Ssid) -> bool
+    requires { IsDrive drive }
+    ensures { result ≡ (holds_set (in_drive drives.now drive) ssid.0
+        || is_asking (asking_number asking) ssid.0) }
 {
     match asking {
-        Some(one) => one.0 == ssid.0,
-        None => false,
+        Some(one) => drives.holds(drive, ssid) || one.0 == ssid.0,
+        None => drives.holds(drive, ssid),
     }
 }
 

@@ -7,10 +7,12 @@ mod closing;
 mod committing;
 mod entering;
 mod entries;
+mod laws;
 mod looking;
 mod moving;
 mod preparing;
 mod sending;
 mod state;
 
+pub use laws::{prepared_commits_are_any, prepared_entries_stay};
 pub use state::RoomState;

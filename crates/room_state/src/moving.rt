@@ -1,15 +1,17 @@
 //! The effects in memory on volumes and sessions. They take the memory that they need themselves,
 //! before anything is done.
 
-ghost use Rattle.std.specs.Prelude.{◌≡◌, OnErr, OnOk, IfSome};
-ghost use Rattle.save_session.specs.Sessions.{FollowsPiece, find_session};
+ghost use Rattle.std.specs.Prelude.{◌≡◌, OnErr, OnOk, IfSome, Some, true};
+ghost use Rattle.save_stream.specs.Fields.{IsIndex};
+ghost use Rattle.save_stream.specs.Spelling.{PathsAscend};
+ghost use Rattle.save_session.specs.Sessions.{FollowsPiece, find_session, of_session};
 ghost use Rattle.room_effects.specs.Effects.{Close, Open, PutIn, Take, TakeOut, after_done};
 ghost use Rattle.room_effects.specs.Needs.{CanDo};
 ghost use Rattle.room_state.specs.Memory.{TakesMemory};
 
 use crate::state::RoomState;
 use room_base::{Memory, Ssid};
-use save_stream::{SetHead, StreamFault};
+use save_stream::{IndexEntry, SetHead, StreamFault};
 use volume_store::Volume;
 
 impl RoomState {
@@ -20,7 +22,8 @@ impl RoomState {
         ensures kept { OnErr result (self.new.room ≡ self.old.room) }
         ensures memory { self.new.memory ≡ self.old.memory }
     {
-        self.drives.put_in(drive, volume)
+        self.drives.put_in(drive, volume)?;
+        Ok(())
     }
 
     /// Empties a drive whose buffer is empty. No session is on it any more.
@@ -40,7 +43,8 @@ impl RoomState {
         ensures kept { OnErr result (self.new.room ≡ self.old.room) }
         ensures memory { TakesMemory (Open head) self.old.memory self.new.memory }
     {
-        self.sessions.start(head)
+        self.sessions.start(head)?;
+        Ok(())
     }
 
     /// Takes the next bytes of a session, which its reader judges. They are to be pushed behind it.
@@ -53,7 +57,8 @@ impl RoomState {
         ensures kept { OnErr result (self.new.room ≡ self.old.room) }
         ensures memory { self.new.memory ≡ self.old.memory }
     {
-        self.sessions.take(ssid, piece)
+        self.sessions.take(ssid, piece)?;
+        Ok(())
     }
 
     /// Ends a session. Its index goes with it.
@@ -63,5 +68,19 @@ impl RoomState {
         ensures memory { TakesMemory (Close ssid.0) self.old.memory self.new.memory }
     {
         self.sessions.close(ssid);
+    }
+    /// Ends a session whose stream has ended, and hands its index over. Takes no memory.
+    pub fn finish_session(&mut self, ssid: Ssid) -> Vec<IndexEntry>
+        requires can { CanDo (Close ssid.0) self.old.room }
+        requires ended { IfSome (find_session ssid.0 self.old.room.sessions)
+            (λ session. session.reading.ended ≡ true) }
+        ensures index { of_session (λ session. session.reading.entries) ssid.0
+            self.old.room.sessions ≡ Some result.items }
+        ensures order { PathsAscend result.items }
+        ensures allowed { IsIndex result.items }
+        ensures closed { self.new.room ≡ after_done (Close ssid.0) self.old.room }
+        ensures memory { TakesMemory (Close ssid.0) self.old.memory self.new.memory }
+    {
+        self.sessions.finish(ssid)
     }
 }

@@ -1,7 +1,7 @@
 //! Memory for effects that are to be done. Each of these calls keeps the room as it is, and what
 //! was prepared before.
 
-ghost use Rattle.std.specs.Prelude.{◌≡◌, ◌<◌, ◌^◌, ℕ, List, length, OnOk};
+ghost use Rattle.std.specs.Prelude.{◌≡◌, ◌≤◌, ◌<◌, ◌^◌, ℕ, List, length, OnOk};
 ghost use Rattle.room_base.specs.declared.numbers.Moment.{Moment};
 ghost use Rattle.catalog_change.specs.Changes.{IsChange};
 ghost use Rattle.room_effects.specs.Effects.{Enter, Push, entry_bytes};
@@ -24,10 +24,21 @@ impl RoomState {
         ensures room { self.new.room ≡ self.old.room }
         ensures memory { KeepsMemory self.old.memory self.new.memory }
     {
-        let Ok(length) = u32::try_from(change_length(change)) else {
+        self.catalogue.prepare(change)?;
+        self.prepare_entry(change_length(change))
+    }
+
+    /// Makes memory for an entry of so many bytes, where the change that it is spelled from isn't at
+    /// hand yet.
+    pub fn prepare_entry(&mut self, length: u64) -> Result<(), Memory>
+        ensures ready { OnOk result (length ≤ self.new.memory.entry) }
+        ensures short { OnOk result (length < 2 ^ 32) }
+        ensures room { self.new.room ≡ self.old.room }
+        ensures memory { KeepsMemory self.old.memory self.new.memory }
+    {
+        let Ok(length) = u32::try_from(length) else {
             return Err(Memory);
         };
-        self.catalogue.prepare(change)?;
         self.journal.reserve(length)
     }
 

@@ -1,6 +1,9 @@
 //! The effect that puts bytes into a drive's buffer.
 
 ghost use Rattle.std.specs.Prelude.{◌≡◌, ◌+◌, ◌*◌, ◌<◌, ◌≤◌, ◌^◌, length, IfSome, IsSomeAnd};
+ghost use Rattle.save_session.specs.Parts.{IsNextPart};
+ghost use Rattle.save_session.specs.Sessions.{IsOpen, KeepsOtherRooms, change_session};
+ghost use Rattle.save_session.specs.Sessions.{find_session, placed_on, room_for};
 ghost use Rattle.slot_changer.specs.Drives.{IsDrive, after_push, change_drive, in_drive};
 ghost use Rattle.slot_changer.specs.Taking.{CanPush};
 ghost use Rattle.room_effects.specs.Effects.{Push, after_done, part_of};
@@ -12,6 +15,7 @@ ghost use Rattle.room_state.specs.Memory.{TakesMemory};
 use crate::state::RoomState;
 use media_db::Section;
 use room_base::{CopyNo, Ssid};
+use save_session::Sessions;
 use slot_changer::Drives;
 use volume_store::Volume;
 
@@ -36,10 +40,24 @@ impl RoomState {
             self.old.memory self.new.memory }
     {
         let part = push_into(&mut self.drives, drive, ssid, copy, offset, bytes);
-        if self.sessions.is_open(ssid) {
-            self.sessions.placed(ssid, drive, part);
-        }
+        place_part(&mut self.sessions, ssid, drive, part);
         part
+    }
+}
+
+// Bytes of a set lie so in a drive: they are the next part of its session, if it has one.
+fn place_part(sessions: &mut Sessions, ssid: Ssid, drive: u8, part: Section)
+    requires drive { IsDrive drive }
+    requires room { IsOpen ssid.0 sessions.old.sessions → 0 < room_for ssid.0 sessions.old.rooms }
+    requires part { IfSome (find_session ssid.0 sessions.old.sessions)
+        (λ session. IsNextPart part session.sections) }
+    ensures sessions { sessions.new.sessions
+        ≡ change_session ssid.0 (placed_on drive part) sessions.old.sessions }
+    ensures room { room_for ssid.0 sessions.old.rooms ≤ room_for ssid.0 sessions.new.rooms + 1 }
+    ensures rooms { KeepsOtherRooms ssid.0 sessions.old.rooms sessions.new.rooms }
+{
+    if sessions.is_open(ssid) {
+        sessions.placed(ssid, drive, part);
     }
 }
 

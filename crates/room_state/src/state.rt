@@ -1,20 +1,22 @@
 //! The state of a room, and what is asked of it.
 
-ghost use Rattle.std.specs.Prelude.{◌≡◌, ◌==◌};
+ghost use Rattle.std.specs.Prelude.{◌≡◌, ◌↔◌, ℕ, IsSomeAnd, IsTrue, MatchOption};
 ghost use Rattle.std.specs.Option.{is_some};
 ghost use Rattle.cat_journal.specs.Journal.{form_of};
 ghost use Rattle.room_catalog.specs.Invariant.{IsHeld};
 ghost use Rattle.room_effects.specs.Effects.{is_at_last};
 ghost use Rattle.room_effects.specs.Memory.{catalogue_in};
-ghost use Rattle.room_effects.specs.View.{IsJournalOf, IsRoom, opened_room};
+ghost use Rattle.room_effects.specs.Needs.{IsInNoDrive};
+ghost use Rattle.room_effects.specs.View.{IsJournalOf, IsRoom, held_in, opened_room};
+ghost use Rattle.slot_changer.specs.Drives.{IsDrive, in_drive};
 ghost use Rattle.room_state.specs.Memory.{without_spare};
 
 use crate::entries::EntryJournal;
 use cat_journal::Journal;
-use room_base::Ssid;
+use room_base::{Cart, Ssid};
 use room_catalog::Catalogue;
 use save_session::Sessions;
-use slot_changer::Drives;
+use slot_changer::{Drives, MAX_DRIVE};
 use std::alloc::Global;
 use std::marker::Model;
 
@@ -91,6 +93,15 @@ impl RoomState {
         &self.drives
     }
 
+    /// The drive that has the volume of a cartridge, if one has.
+    pub fn drive_with(&self, cart: Cart) -> Option<u8>
+        ensures { MatchOption result (IsInNoDrive cart.0 self.now.room)
+            (λ drive. IsDrive drive
+            × IsSomeAnd (held_in self.now.room drive) (λ one. one.volume.cart.0 ≡ cart.0)) }
+    {
+        drive_with(&self.drives, cart)
+    }
+
     /// Whether a file of the journal is open. Where none is, a turn-over has to come before the
     /// first entry.
     pub fn has_journal_file(&self) -> bool
@@ -118,5 +129,32 @@ impl RoomState {
     /// The allocator of all lists of the room.
     pub fn allocator(&self) -> Global {
         self.alloc
+    }
+}
+
+// The drive that has the volume of a cartridge.
+fn drive_with(drives: &Drives, cart: Cart) -> Option<u8>
+    ensures { MatchOption result
+        ((drive : ℕ) → IsDrive drive → ¬ IsSomeAnd (in_drive drives.now drive)
+        (λ one. one.volume.cart.0 ≡ cart.0))
+        (λ drive. IsDrive drive
+        × IsSomeAnd (in_drive drives.now drive) (λ one. one.volume.cart.0 ≡ cart.0)) }
+{
+    for drive in 1..MAX_DRIVE + 1 {
+        if has_cart(drives, drive, cart) {
+            return Some(drive);
+        }
+    }
+    None
+}
+
+fn has_cart(drives: &Drives, drive: u8, cart: Cart) -> bool
+    requires { IsDrive drive }
+    ensures { IsTrue result
+        ↔ IsSomeAnd (in_drive drives.now drive) (λ one. one.volume.cart.0 ≡ cart.0) }
+{
+    match drives.volume(drive) {
+        Some(volume) => volume.cart.0 == cart.0,
+        None => false,
     }
 }
