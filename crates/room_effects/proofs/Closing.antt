@@ -18,7 +18,7 @@ use Rattle.slot_changer.specs.Drives.{DriveView}
 use Rattle.room_effects.proofs.StayingSessions.{each_kept}
 
 -- the sessions of these ssids are closed
-pub close_each : List Ssid → List SessionView → List SessionView
+unfoldable pub close_each : List Ssid → List SessionView → List SessionView
 close_each [] sessions = sessions
 close_each (ssid ∷ ssids) sessions = close_each ssids (close_session ssid.0 sessions)
 

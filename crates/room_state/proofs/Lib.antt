@@ -1,0 +1,5 @@
+pub mod Doing
+pub mod Placing
+pub mod Losing
+pub mod Writing
+pub mod Prepared
