@@ -3,3 +3,4 @@ pub mod Placing
 pub mod Losing
 pub mod Writing
 pub mod Prepared
+pub mod Listed

@@ -3,6 +3,7 @@
 //! docs/definitions.md says what the words of the contracts mean.
 #![tactic(auto)]
 
+mod busy;
 mod closing;
 mod committing;
 mod entering;
@@ -16,3 +17,6 @@ mod state;
 
 pub use laws::{prepared_commits_are_any, prepared_entries_stay};
 pub use state::RoomState;
+
+#[cfg(test)]
+mod tests;

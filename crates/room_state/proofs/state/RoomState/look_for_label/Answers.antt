@@ -10,9 +10,13 @@ returns-in-Ok-clause-seen g c =
     (g.D.Store.view c.args.store.now) (g.D.Store.view c.read_label.new.store)
     (record { opens = c.requires.opens; needs = c.requires.cart }) read.cause read.tells read.quiet read.settled read.found
 
-pub returns-in-Err-clause-failed : goal.returns-in-Err-clause-failed
-returns-in-Err-clause-failed g c seen =
+pub returns-in-Err : goal.returns-in-Err
+returns-in-Err g c =
     let read = c.in-Err.ensures in
-    rw c.fault_on.ensures (does_look_label_broken {T = Found} {E = Failed} c.args.cart.0 seen c.in-Err.field-0 c.args.self.now.room
-    (g.D.Store.view c.args.store.now) (g.D.Store.view c.read_label.new.store)
-    (record { opens = c.requires.opens; needs = c.requires.cart }) read.cause read.tells read.quiet)
+    record {
+      seen = tt;
+      failed = λ seen. rw c.fault_on.ensures (does_look_label_broken {T = Found} {E = Failed} c.args.cart.0 seen c.in-Err.field-0 c.args.self.now.room
+          (g.D.Store.view c.args.store.now) (g.D.Store.view c.read_label.new.store)
+          (record { opens = c.requires.opens; needs = c.requires.cart }) read.cause read.tells read.quiet);
+      allowed = tt;
+    }
