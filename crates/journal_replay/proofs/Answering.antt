@@ -1,0 +1,1 @@
+-- What a file replays to, as its journal means it.
