@@ -48,7 +48,14 @@ pub record IsSound (replayed : Replayed) : Type 0 where
   pub held : IsHeld replayed.catalogue.lists
   pub journal : IsJournalOf replayed.catalogue.lists (record replayed.journal { spare = 0 })
 
--- the answer is what the files replay to, or where they are damaged
+-- the catalogue that is answered is what the files replay to, or they are damaged where it is said
+abbrev pub CatalogueOf : Image → Result HeldCatalogue ReplayFault → Type 0
+CatalogueOf files (Ok held) = ReplaysTo files held.lists
+CatalogueOf files (Err (faults.Damaged file place)) = IsDamaged files file place
+CatalogueOf files (Err (faults.Failed file)) = Unit {0}
+CatalogueOf files (Err faults.Memory) = Unit {0}
+
+-- the same of a journal with the catalogue
 abbrev pub AnswersOf : Image → Result Replayed ReplayFault → Type 0
 AnswersOf files (Ok replayed) = ReplaysTo files replayed.catalogue.lists
 AnswersOf files (Err (faults.Damaged file place)) = IsDamaged files file place

@@ -4,9 +4,12 @@ ghost use Rattle.std.specs.Prelude.{◌≡◌, IfErr, IfOk};
 ghost use Rattle.room_base.specs.Outside.{Told};
 ghost use Rattle.room_disk.specs.Disk.{Image, Quiet};
 ghost use Rattle.cat_journal.specs.Images.{IsJournal};
+ghost use Rattle.cat_journal.specs.Journal.{IsKnown};
 ghost use Rattle.cat_journal.specs.Opening.{Gives, GivesJournal};
-ghost use Rattle.journal_replay.specs.Answers.{AnswersOf, IsNoFailure, IsSound, ReplayCause};
-ghost use Rattle.journal_replay.specs.Answers.{ReplaysFile};
+ghost use Rattle.room_catalog.specs.Invariant.{IsHeld};
+ghost use Rattle.room_effects.specs.View.{IsJournalOf};
+ghost use Rattle.journal_replay.specs.Answers.{AnswersOf, CatalogueOf, IsNoFailure, IsSound};
+ghost use Rattle.journal_replay.specs.Answers.{ReplayCause, ReplaysFile};
 
 use crate::entries::replay_entries;
 use crate::fault::ReplayFault;
@@ -47,8 +50,32 @@ fn replay_opened(alloc: Global, opened: Opened) -> Result<Replayed, ReplayFault>
     ensures journal { IfOk result (λ replayed. replayed.journal ≡ opened.journal) }
     ensures fault { IfErr result IsNoFailure }
 {
-    let catalogue = match opened.file {
-        None => Catalogue::opening(alloc)?,
+    let catalogue = opened_catalogue(alloc, &opened)?;
+    Ok(put_together(opened.journal, catalogue))
+}
+
+// A journal and a catalogue, with what is always true of them.
+fn put_together(journal: Journal, catalogue: Catalogue) -> Replayed
+    ensures is { result ≡ record { journal = journal; catalogue = catalogue } }
+    ensures known { IsKnown journal.current }
+    ensures held { IsHeld catalogue.lists }
+{
+    let _is_open = journal.is_open();
+    let _number = catalogue.number();
+    Replayed { journal, catalogue }
+}
+
+// The catalogue of what was opened.
+fn opened_catalogue(alloc: Global, opened: &Opened) -> Result<Catalogue, ReplayFault>
+    requires { GivesJournal opened.now opened.now.file }
+    ensures told { (files : Image) → Gives files opened.now opened.now.file
+        → CatalogueOf files result }
+    ensures untold { IfOk result (λ catalogue. IsKnown opened.now.journal.current
+        → IsJournalOf catalogue.lists (record opened.now.journal { spare = 0 })) }
+    ensures fault { IfErr result IsNoFailure }
+{
+    match opened.file {
+        None => Ok(Catalogue::opening(alloc)?),
         Some(file) => replay_file(
             alloc,
             file,
@@ -56,12 +83,8 @@ fn replay_opened(alloc: Global, opened: Opened) -> Result<Replayed, ReplayFault>
             opened.number,
             opened.snapshot.as_slice(),
             opened.entries.as_slice(),
-        )?,
-    };
-    Ok(Replayed {
-        journal: opened.journal,
-        catalogue,
-    })
+        ),
+    }
 }
 
 // Replays the current file, whose head says that number.
