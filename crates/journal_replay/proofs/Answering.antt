@@ -1,23 +1,19 @@
 -- What is answered of the files of a journal.
 use Rattle.std.proofs.Common.{◌≡◌, ℕ, ◌+◌, List, length, Result, Ok, Err, refl, sym, ap, ◌∙◌, subst, inl, inr}
 use Rattle.std.specs.Prelude.{IfOk, Option, Some, None}
-use Rattle.room_disk.specs.Disk.{DiskView, Image, Quiet, Settled}
+use Rattle.room_disk.specs.Disk.{Image}
 use Rattle.cat_journal.specs.Contents.{Contents, last_of}
 use Rattle.cat_journal.specs.Entries.{entries_of, payloads_of}
-use Rattle.cat_journal.specs.Images.{IsJournal}
-use Rattle.cat_journal.specs.Journal.{IsKnown, JournalView, KnowsFiles, form_of}
-use Rattle.cat_journal.specs.Meaning.{Damaged, Means, Stands, Unopened}
-use Rattle.cat_journal.specs.Opening.{Gives, GivesContents, GivesJournal, GivesNothing, OpensJournal, at_contents}
+use Rattle.cat_journal.specs.Journal.{IsKnown, JournalView, form_of}
+use Rattle.cat_journal.specs.Meaning.{Means, Stands}
+use Rattle.cat_journal.specs.Opening.{Gives, GivesJournal, OpensJournal}
 use Rattle.cat_journal.specs.declared.current.CurrentFile.{CurrentFile}
 use Rattle.cat_journal.specs.declared.entry_list.Entry.{Entry}
 use Rattle.cat_journal.specs.declared.opening.Opened.{Opened}
-use Rattle.room_catalog.specs.Held.{CatalogueLists, HeldCatalogue, catalogue_of, no_parts, opening_catalogue}
+use Rattle.room_catalog.specs.Held.{HeldCatalogue}
 use Rattle.room_effects.specs.View.{IsJournalOf}
-use Rattle.room_effects.proofs.Journals.{knows_alike}
-use Rattle.room_effects.proofs.Opening.{blank_is_of, no_journal}
 use Rattle.journal_replay.specs.Answers.{AnswersOf, CatalogueOf, ReplaysFile}
 use Rattle.journal_replay.specs.Entries.{Replays}
-use Rattle.journal_replay.specs.Files.{IsDamaged, ReplaysTo}
 use Rattle.journal_replay.specs.declared.fault.ReplayFault.{ReplayFault}
 use Rattle.journal_replay.specs.declared.fault.ReplayFault.TheVariants as faults
 use Rattle.journal_replay.proofs.Numbering.{replays_bare, replays_number}
@@ -78,36 +74,7 @@ file_told files opened file answer gives replays =
     contents_told files file contents answer gives.1
     (subst E gives.2.entries (subst S gives.2.snapshot (subst N gives.2.number (subst F (ap (λ (journal : JournalView). form_of journal.current) gives.2.journal) replays))))
 
--- where no file is open
-pub none_told : (files : Image) (opened : Opened) (lists : CatalogueLists) → Gives files opened None → catalogue_of lists ≡ opening_catalogue → lists.parts ≡ no_parts → ReplaysTo files lists
-none_told files opened lists gives is bare = record { meaning = Unopened; means = gives.0; gives = (is, bare) }
-
-pub damage_told : (files : Image) (file place : ℕ) → Means files (Damaged file place) → IsDamaged files file place
-damage_told files file place means = record { meaning = Damaged file place; means = means; is = (refl, refl) }
-
--- ---- the journal
-
-knows_given : (files : Image) (opened : Opened) (file : Option ℕ) → Gives files opened file → KnowsFiles opened.journal files
-knows_given files opened None gives = let K : JournalView → Type 0 = λ journal. KnowsFiles journal files in subst K (sym gives.1.journal) gives.0
-knows_given files opened (Some file) gives =
-    let K : JournalView → Type 0 = λ journal. KnowsFiles journal files in
-    subst K (sym gives.2.journal) (gives.0, record { form = refl; generation = refl; gate = refl; number = refl }, gives.1)
-
--- the journal that was opened stands on the disk behind it
-pub journal_stands : (before now : DiskView) (opened : Opened) → Gives before.reads opened opened.file → Quiet before now → Settled now 0 × Settled now 1
-    → IsJournal opened.journal now
-journal_stands before now opened gives quiet settled = record {
-  knows = knows_alike opened.journal before.reads now.reads (quiet.reads 0) (quiet.reads 1) (knows_given before.reads opened opened.file gives);
-  first = settled.0;
-  second = settled.1;
-}
-
 -- ---- what is known besides
-
-pub none_sound : (opened : Opened) (lists : CatalogueLists) → GivesNothing opened → catalogue_of lists ≡ opening_catalogue → lists.parts ≡ no_parts
-    → IsJournalOf lists (record opened.journal { spare = 0 })
-none_sound opened lists gives is bare =
-    let J : JournalView → Type 0 = λ journal. IsJournalOf lists (record journal { spare = 0 }) in subst J (sym gives.journal) (blank_is_of lists is bare)
 
 pub file_sound : (opened : Opened) (file : ℕ) (held : HeldCatalogue) → OpensJournal file opened → IsKnown opened.journal.current
     → ReplaysFile file (form_of opened.journal.current) opened.number opened.snapshot opened.entries (Ok held) → IsJournalOf held.lists (record opened.journal { spare = 0 })

@@ -1,13 +1,13 @@
 -- The catalogue that a snapshot gives.
-use Rattle.std.proofs.Common.{◌≡◌, ℕ, true, List, Err, sym, ap, ◌∙◌, subst}
+use Rattle.std.proofs.Common.{◌≡◌, ℕ, true, List, Err, ap, ◌∙◌, subst}
 use Rattle.catalog_change.specs.Catalogues.{Catalogue}
 use Rattle.catalog_text.specs.declared.fault.DecodeFault.TheVariants as faults
 use Rattle.snapshot_text.specs.Decoding.{StopsAtPlace}
 use Rattle.snapshot_reading.specs.Spelled.{IsText}
 use Rattle.snapshot_reading.proofs.SnapshotLaws.{one-catalogue, read-back}
-use Rattle.room_catalog.specs.Held.{CatalogueLists, HeldCatalogue, catalogue_of}
+use Rattle.room_catalog.specs.Held.{HeldCatalogue, catalogue_of}
 use Rattle.room_catalog.specs.Reading.{IsReadTo}
-use Rattle.journal_replay.specs.Files.{GivesNone, IsFirst}
+use Rattle.journal_replay.specs.Files.{GivesNone}
 
 -- bytes are the text of one catalogue
 pub one_text : (bytes : List ℕ) (one other : Catalogue) → IsText true bytes one → IsText true bytes other → one ≡ other
@@ -21,9 +21,3 @@ none_of_bad number snapshot place stops = λ first is.
 pub none_of_number : (number : ℕ) (snapshot : List ℕ) (held : HeldCatalogue) → IsReadTo true snapshot held → ¬ (held.lists.number ≡ number) → GivesNone number snapshot
 none_of_number number snapshot held read other = λ first is.
     other (ap (λ (all : Catalogue). all.number) (one_text snapshot (catalogue_of held.lists) (catalogue_of first) read.text is.is.text) ∙ is.number_is)
-
-pub is_first : (number : ℕ) (snapshot : List ℕ) (held : HeldCatalogue) → IsReadTo true snapshot held → held.lists.number ≡ number → IsFirst number snapshot held.lists
-is_first number snapshot held read same = record {
-  is = record { text = read.text; parts = read.parts };
-  number_is = same;
-}

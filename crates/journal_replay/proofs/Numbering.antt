@@ -4,7 +4,7 @@ use Rattle.std.specs.Prelude.{slice_index}
 use Rattle.room_base.specs.declared.numbers.Moment.{Moment}
 use Rattle.cat_journal.specs.Contents.{last_of, number_after}
 use Rattle.catalog_change.specs.declared.change.Change.{Change}
-use Rattle.catalog_change.specs.declared.change.Change.TheVariants.{FinishedParts, IndexPart}
+use Rattle.catalog_change.specs.declared.change.Change.TheVariants.{IndexPart}
 use Rattle.catalog_text.specs.Changes.{Stamped, change_byte}
 use Rattle.room_catalog.specs.Changing.{lists_after}
 use Rattle.room_catalog.specs.Held.{CatalogueLists, no_parts}

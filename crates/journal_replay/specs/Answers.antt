@@ -1,6 +1,6 @@
 -- What replaying answers.
 use Rattle.std.specs.Prelude.{◌≡◌, ◌⊎◌, ℕ, ◌≤◌, Bool, true, false, List, ◌∷◌, ◌++◌}
-use Rattle.std.specs.Prelude.{Option, Some, None, Result, Ok, Err, IfErr}
+use Rattle.std.specs.Prelude.{Result, Ok, Err, IfErr}
 use Rattle.room_base.specs.Faults.{Rose}
 use Rattle.room_base.specs.declared.fault.Memory.{Memory}
 use Rattle.room_disk.specs.Disk.{DiskView, Image}

@@ -1,4 +1,3 @@
-use Rattle.journal_replay.proofs.Answering.{damage_told, journal_stands}
 use Rattle.journal_replay.proofs.replaying.replay.Goals as goal
 
 pub returns-clause-told : goal.returns-clause-told
