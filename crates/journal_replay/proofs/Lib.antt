@@ -3,3 +3,6 @@ pub mod Numbering
 pub mod Placing
 pub mod FirstCatalogue
 pub mod Answering
+pub mod Alike
+pub mod Once
+pub mod Reopened

@@ -5,8 +5,13 @@
 
 mod entries;
 mod fault;
+mod laws;
 mod replaying;
 mod snapshot;
 
 pub use fault::ReplayFault;
+pub use laws::{files_replay_as_one, replayed_files_reopen};
 pub use replaying::{Replayed, replay};
+
+#[cfg(test)]
+mod tests;
