@@ -1,0 +1,23 @@
+-- The catalogue that a snapshot gives.
+use Rattle.std.proofs.Common.{◌≡◌, ℕ, true, List, Err, ap, ◌∙◌, subst}
+use Rattle.catalog_change.specs.Catalogues.{Catalogue}
+use Rattle.catalog_text.specs.declared.fault.DecodeFault.TheVariants as faults
+use Rattle.snapshot_text.specs.Decoding.{StopsAtPlace}
+use Rattle.snapshot_reading.specs.Spelled.{IsText}
+use Rattle.snapshot_reading.proofs.SnapshotLaws.{one-catalogue, read-back}
+use Rattle.room_catalog.specs.Held.{HeldCatalogue, catalogue_of}
+use Rattle.room_catalog.specs.Reading.{IsReadTo}
+use Rattle.journal_replay.specs.Files.{GivesNone}
+
+-- bytes are the text of one catalogue
+pub one_text : (bytes : List ℕ) (one other : Catalogue) → IsText true bytes one → IsText true bytes other → one ≡ other
+one_text bytes one other text also = one-catalogue true bytes one other text also
+
+pub none_of_bad : (number : ℕ) (snapshot : List ℕ) (place : ℕ) → StopsAtPlace true snapshot place → GivesNone number snapshot
+none_of_bad number snapshot place stops = λ first is.
+    let S : List ℕ → Type 0 = λ bytes. StopsAtPlace true bytes place in
+    read-back true (catalogue_of first) (Err (faults.Bad place)) is.is.text.allowed is.is.text.fits (subst S is.is.text.text stops)
+
+pub none_of_number : (number : ℕ) (snapshot : List ℕ) (held : HeldCatalogue) → IsReadTo true snapshot held → ¬ (held.lists.number ≡ number) → GivesNone number snapshot
+none_of_number number snapshot held read other = λ first is.
+    other (ap (λ (all : Catalogue). all.number) (one_text snapshot (catalogue_of held.lists) (catalogue_of first) read.text is.is.text) ∙ is.number_is)

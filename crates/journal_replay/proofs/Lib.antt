@@ -1,0 +1,8 @@
+pub mod Following
+pub mod Numbering
+pub mod Placing
+pub mod FirstCatalogue
+pub mod Answering
+pub mod Alike
+pub mod Once
+pub mod Reopened
