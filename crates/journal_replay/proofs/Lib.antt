@@ -6,3 +6,4 @@ pub mod Answering
 pub mod Alike
 pub mod Once
 pub mod Reopened
+pub mod Crashed

@@ -1,10 +1,12 @@
 -- What the files of a journal replay to, and where they are damaged.
-use Rattle.std.specs.Prelude.{◌≡◌, ◌⊎◌, ℕ, true, List, ◌∷◌, ◌++◌}
+use Rattle.std.specs.Prelude.{◌≡◌, ◌⊎◌, ℕ, ◌≤◌, length, take, true, List, ◌∷◌, ◌++◌}
 use Rattle.room_disk.specs.Disk.{Image}
 use Rattle.cat_journal.specs.Contents.{Contents, contents_of, gate_of}
 use Rattle.cat_journal.specs.Meaning.{Meaning, Means, Unopened, Damaged, Stands}
+use Rattle.catalog_text.specs.Changes.{Stamped}
 use Rattle.snapshot_reading.specs.Spelled.{IsText}
 use Rattle.room_catalog.specs.Held.{CatalogueLists, catalogue_of, no_parts, opening_catalogue}
+use Rattle.room_effects.specs.Running.{catalogue_behind}
 use Rattle.journal_replay.specs.Entries.{IsStray, Replays}
 
 -- ---- the catalogue of a snapshot
@@ -80,3 +82,11 @@ pub record IsDamaged (files : Image) (file place : ℕ) : Type 0 where
   pub meaning : Meaning
   pub means : Means files meaning
   pub is : MeaningIsDamaged meaning file place
+
+-- ---- behind a crash
+
+-- the catalogue after the first so many of these changes; whatever parts of an index wait then
+pub record IsAfterSome (changes : List Stamped) (before lists : CatalogueLists) : Type 0 where
+  pub count : ℕ
+  pub within : count ≤ length changes
+  pub is : catalogue_of lists ≡ catalogue_of (catalogue_behind (take count changes) before)

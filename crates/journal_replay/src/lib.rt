@@ -10,7 +10,7 @@ mod replaying;
 mod snapshot;
 
 pub use fault::ReplayFault;
-pub use laws::{files_replay_as_one, replayed_files_reopen};
+pub use laws::{crashed_files_replay, files_replay_as_one, replayed_files_reopen};
 pub use replaying::{Replayed, replay};
 
 #[cfg(test)]
