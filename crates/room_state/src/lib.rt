@@ -17,6 +17,3 @@ mod state;
 
 pub use laws::{prepared_commits_are_any, prepared_entries_stay};
 pub use state::RoomState;
-
-#[cfg(test)]
-mod tests;
