@@ -1,0 +1,7 @@
+pub mod Answers
+pub mod Records
+pub mod Refused
+pub mod Replies
+pub mod Values
+pub mod Words
+pub mod Writing

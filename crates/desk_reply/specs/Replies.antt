@@ -1,0 +1,43 @@
+-- The bytes of a reply.
+use Rattle.std.specs.Prelude.{ℕ, List, ◌++◌, length, codes}
+use Rattle.std.specs.Fmt.{decimal}
+use Rattle.http.specs.StatusCode.{status_text}
+use Rattle.json.specs.Json.{Json}
+use Rattle.room_base.specs.Refusals.{refusal_number}
+use Rattle.room_command.specs.declared.reply.Reply.{Reply}
+use Rattle.room_command.specs.declared.reply.Reply.TheVariants.{Done, Refused}
+use Rattle.desk_reply.specs.Answers.{answer_json}
+use Rattle.desk_reply.specs.Refused.{status_of_number, refusal_json}
+use Rattle.desk_reply.specs.Values.{json_text}
+
+abbrev pub reply_status : Reply → ℕ
+reply_status (Done answer) = 200
+reply_status (Refused refusal) = status_of_number (refusal_number refusal)
+
+abbrev pub reply_json : Reply → Json
+reply_json (Done answer) = answer_json answer
+reply_json (Refused refusal) = refusal_json refusal
+
+abbrev pub body_bytes : Reply → List ℕ
+body_bytes reply = json_text (reply_json reply)
+
+-- a line with its end
+abbrev pub line : List ℕ → List ℕ
+line text = text ++ codes "\r\n"
+
+abbrev pub status_line : ℕ → List ℕ
+status_line status = line (codes "HTTP/1.1 " ++ status_text status)
+
+abbrev pub type_line : List ℕ
+type_line = line (codes "Content-Type: application/json")
+
+abbrev pub length_line : ℕ → List ℕ
+length_line count = line (codes "Content-Length: " ++ decimal count)
+
+-- a head and the bytes of a body
+abbrev pub with_head : ℕ → List ℕ → List ℕ
+with_head status body =
+    status_line status ++ (type_line ++ (length_line (length body) ++ (codes "\r\n" ++ body)))
+
+abbrev pub reply_bytes : Reply → List ℕ
+reply_bytes reply = with_head (reply_status reply) (body_bytes reply)

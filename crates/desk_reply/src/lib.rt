@@ -1,0 +1,6 @@
+//! The text of a reply: a status line, headers and a body of JSON, as one list of bytes.
+//! docs/http.md says which reply has which text.
+#![tactic(auto)]
+
+mod member;
+
