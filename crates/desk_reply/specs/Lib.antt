@@ -1,4 +1,5 @@
 pub mod Answers
+pub mod Members
 pub mod Records
 pub mod Refused
 pub mod Replies

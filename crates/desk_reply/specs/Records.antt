@@ -23,40 +23,36 @@ copy_json copy = json_object
     ∷ (codes "state", string (copy_state_word copy.state))
     ∷ [])
 
--- the members of a record's object from `base` to `files`
+-- the members of a record's object before `copies`
 abbrev pub first_members : Record → List (List ℕ × Json)
-first_members record_ =
-    (codes "base", whole record_.base.0)
-    ∷ (codes "browse", whole record_.browse.0)
-    ∷ (codes "bytes", whole record_.bytes)
-    ∷ (codes "changed", whole record_.changed)
-    ∷ (codes "client", string record_.client)
-    ∷ (codes "copies", json_list copy_json record_.copies)
-    ∷ (codes "digest", string (encode_lower record_.digest))
-    ∷ (codes "files", whole record_.files)
+first_members row =
+    (codes "base", whole row.base.0)
+    ∷ (codes "browse", whole row.browse.0)
+    ∷ (codes "bytes", whole row.bytes)
+    ∷ (codes "changed", whole row.changed)
+    ∷ (codes "client", string row.client)
     ∷ []
 
--- those from `group` to `purged`
-abbrev pub middle_members : Record → List (List ℕ × Json)
-middle_members record_ =
-    (codes "group", string record_.group)
-    ∷ (codes "hold", boolean record_.hold)
-    ∷ (codes "level", string (level_word record_.level))
-    ∷ (codes "next_copy", whole record_.next_copy)
-    ∷ (codes "pool", string record_.pool)
-    ∷ (codes "purged", boolean record_.purged)
-    ∷ []
-
--- those from `retain` to `state`
+-- those behind it
 abbrev pub last_members : Record → List (List ℕ × Json)
-last_members record_ =
-    (codes "retain", whole record_.retain.0)
-    ∷ (codes "saved", whole record_.saved.0)
-    ∷ (codes "set", string record_.set)
-    ∷ (codes "ssid", whole record_.ssid.0)
-    ∷ (codes "state", string (record_state_word record_.state))
+last_members row =
+    (codes "digest", string (encode_lower row.digest))
+    ∷ (codes "files", whole row.files)
+    ∷ (codes "group", string row.group)
+    ∷ (codes "hold", boolean row.hold)
+    ∷ (codes "level", string (level_word row.level))
+    ∷ (codes "next_copy", whole row.next_copy)
+    ∷ (codes "pool", string row.pool)
+    ∷ (codes "purged", boolean row.purged)
+    ∷ (codes "retain", whole row.retain.0)
+    ∷ (codes "saved", whole row.saved.0)
+    ∷ (codes "set", string row.set)
+    ∷ (codes "ssid", whole row.ssid.0)
+    ∷ (codes "state", string (record_state_word row.state))
     ∷ []
+
+abbrev pub copies_member : Record → List ℕ × Json
+copies_member row = (codes "copies", json_list copy_json row.copies)
 
 abbrev pub record_json : Record → Json
-record_json record_ =
-    json_object (first_members record_ ++ (middle_members record_ ++ last_members record_))
+record_json row = json_object (first_members row ++ (copies_member row ∷ last_members row))

@@ -1,7 +1,7 @@
 -- The bytes of a reply.
-use Rattle.std.specs.Prelude.{ℕ, List, ◌++◌, length, codes}
+use Rattle.std.specs.Prelude.{ℕ, List, [], ◌++◌, length, codes, unwrap_or}
 use Rattle.std.specs.Fmt.{decimal}
-use Rattle.http.specs.StatusCode.{status_text}
+use Rattle.http.specs.StatusCode.{reason_phrase}
 use Rattle.json.specs.Json.{Json}
 use Rattle.room_base.specs.Refusals.{refusal_number}
 use Rattle.room_command.specs.declared.reply.Reply.{Reply}
@@ -25,8 +25,12 @@ body_bytes reply = json_text (reply_json reply)
 abbrev pub line : List ℕ → List ℕ
 line text = text ++ codes "\r\n"
 
+-- the phrase of a status
+abbrev pub phrase : ℕ → List ℕ
+phrase status = unwrap_or (reason_phrase status) []
+
 abbrev pub status_line : ℕ → List ℕ
-status_line status = line (codes "HTTP/1.1 " ++ status_text status)
+status_line status = line (codes "HTTP/1.1 " ++ (decimal status ++ (codes " " ++ phrase status)))
 
 abbrev pub type_line : List ℕ
 type_line = line (codes "Content-Type: application/json")

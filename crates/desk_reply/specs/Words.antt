@@ -1,15 +1,14 @@
 -- The words of levels, actions and states.
-use Rattle.std.specs.Prelude.{ℕ, List, codes, ◌==◌, if◌then◌else◌}
-use Rattle.std.specs.Fmt.{decimal}
+use Rattle.std.specs.Prelude.{ℕ, ◌+◌, List, [], ◌∷◌, codes, ◌==◌, if◌then◌else◌}
 use Rattle.media_db.specs.declared.copies.CopyState.{CopyState}
 use Rattle.media_db.specs.declared.copies.CopyState.TheVariants as copies
 use Rattle.media_db.specs.declared.records.RecordState.{RecordState}
 use Rattle.media_db.specs.declared.records.RecordState.TheVariants as records
 
--- the word of a level by its rank
+-- the word of a level by its rank, one digit for those from 1 to 9
 abbrev pub level_word : ℕ → List ℕ
 level_word rank =
-    if rank == 0 then codes "full" else (if rank == 10 then codes "incr" else decimal rank)
+    if rank == 0 then codes "full" else (if rank == 10 then codes "incr" else (48 + rank) ∷ [])
 
 -- the word of an action by its byte
 abbrev pub action_word : ℕ → List ℕ

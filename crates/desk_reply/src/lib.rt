@@ -2,5 +2,12 @@
 //! docs/http.md says which reply has which text.
 #![tactic(auto)]
 
+mod answer;
 mod member;
+mod record;
+mod refused;
+mod reply;
+mod shown;
+mod word;
 
+pub use reply::reply_text;

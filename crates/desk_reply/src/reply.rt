@@ -1,0 +1,64 @@
+//! The text of a reply.
+
+ghost use Rattle.std.specs.Prelude.{◌≡◌, IfOk};
+ghost use Rattle.desk_reply.specs.Replies.{reply_status, reply_json, reply_bytes, with_head};
+ghost use Rattle.desk_reply.specs.Writing.{Adds};
+ghost use Rattle.json.specs.Tree.{json_tokens};
+
+use crate::answer::write_answer;
+use crate::refused::{refusal_status, write_refusal};
+use http::StatusCode;
+use itoa::Buffer;
+use json::Writer;
+use room_base::Memory;
+use room_command::Reply;
+use std::alloc::{AllocError, Global};
+
+/// Room for the body of most replies.
+const BODY_ROOM: usize = 256;
+
+/// More than a head has.
+const HEAD_ROOM: usize = 128;
+
+/// The bytes of a reply, head and body, so that it can be sent by one write.
+pub fn reply_text(alloc: Global, reply: &Reply) -> Result<Vec<u8>, Memory>
+    ensures { IfOk result (λ text. text.items ≡ reply_bytes reply.now) }
+{
+    let mut out = Writer::new(Vec::with_capacity(alloc, BODY_ROOM)?);
+    write_body(&mut out, reply)?;
+    with_head(alloc, status(reply), &out.into_inner())
+}
+
+fn status(reply: &Reply) -> StatusCode
+    ensures { result ≡ reply_status reply.now }
+{
+    match reply {
+        Reply::Done(_) => StatusCode::OK,
+        Reply::Refused(refusal) => refusal_status(refusal),
+    }
+}
+
+fn write_body(out: &mut Writer, reply: &Reply) -> Result<(), AllocError>
+    ensures { Adds result out.old out.new (json_tokens (reply_json reply.now)) }
+{
+    match reply {
+        Reply::Done(answer) => write_answer(out, answer),
+        Reply::Refused(refusal) => write_refusal(out, refusal),
+    }
+}
+
+fn with_head(alloc: Global, status: StatusCode, body: &[u8]) -> Result<Vec<u8>, Memory>
+    ensures { IfOk result (λ text. text.items ≡ with_head status body.now) }
+{
+    let mut text = Vec::with_capacity(alloc, HEAD_ROOM.saturating_add(body.len()))?;
+    let mut digits = Buffer::new();
+    text.extend_from_slice(b"HTTP/1.1 ")?;
+    text.extend_from_slice(digits.format(status.as_u16()).as_bytes())?;
+    text.extend_from_slice(b" ")?;
+    text.extend_from_slice(status.canonical_reason().unwrap_or("").as_bytes())?;
+    text.extend_from_slice(b"\r\nContent-Type: application/json\r\nContent-Length: ")?;
+    text.extend_from_slice(digits.format(body.len()).as_bytes())?;
+    text.extend_from_slice(b"\r\n\r\n")?;
+    text.extend_from_slice(body)?;
+    Ok(text)
+}
