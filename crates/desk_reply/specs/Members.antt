@@ -16,4 +16,4 @@ value_json (values.Digest digest) = string (encode_lower digest.now)
 value_json (values.Ssids ssids) = json_list ssid_json ssids.now
 
 abbrev pub member_of : Member → List ℕ × Json
-member_of member = (member.key.now, value_json member.value)
+member_of member = (member.0.now, value_json member.1)

@@ -8,7 +8,8 @@ ghost use Rattle.desk_reply.specs.Answers.{slot_json, planned_json, answer_json}
 ghost use Rattle.desk_reply.specs.Values.{whole, json_list, json_object};
 ghost use Rattle.desk_reply.specs.Writing.{Adds};
 
-use crate::member::{number, text, write_object};
+use crate::member::Value::{Number, Text};
+use crate::member::{Member, write_object};
 use crate::record::write_record;
 use crate::shown::{Shown, put_list};
 use crate::word::{action_word, level_word};
@@ -23,10 +24,10 @@ impl Shown for SlotLine {
         write_object(
             out,
             &[
-                number("cart", u64::from(self.cart.0)),
-                number("drive", u64::from(self.drive)),
-                number("slot", u64::from(self.slot)),
-                number("volid", self.volid.0),
+                Member("cart", Number(u64::from(self.cart.0))),
+                Member("drive", Number(u64::from(self.drive))),
+                Member("slot", Number(u64::from(self.slot))),
+                Member("volid", Number(self.volid.0)),
             ],
         )
     }
@@ -39,10 +40,10 @@ impl Shown for Planned {
         write_object(
             out,
             &[
-                text("action", action_word(self.action)),
-                number("base", self.base.0),
-                text("client", self.client.as_str()),
-                text("set", self.set.as_str()),
+                Member("action", Text(action_word(self.action))),
+                Member("base", Number(self.base.0)),
+                Member("client", Text(self.client.as_str())),
+                Member("set", Text(self.set.as_str())),
             ],
         )
     }
@@ -52,15 +53,23 @@ pub(crate) fn write_answer(out: &mut Writer, answer: &Answer) -> Result<(), Allo
     ensures { Adds result out.old out.new (json_tokens (answer_json answer.now)) }
 {
     match answer {
-        Answer::Defined { count } => { write_object(out, &[number("defined", u64::from(*count))]) }
+        Answer::Defined { count } => {
+            write_object(out, &[Member("defined", Number(u64::from(*count)))])
+        }
         Answer::Empty => write_object(out, &[]),
         Answer::Labelled { cart, volid } => write_object(
             out,
-            &[number("cart", u64::from(cart.0)), number("volid", volid.0)],
+            &[
+                Member("cart", Number(u64::from(cart.0))),
+                Member("volid", Number(volid.0)),
+            ],
         ),
         Answer::Mounted { drive, volid } => write_object(
             out,
-            &[number("drive", u64::from(*drive)), number("volid", volid.0)],
+            &[
+                Member("drive", Number(u64::from(*drive))),
+                Member("volid", Number(volid.0)),
+            ],
         ),
         Answer::Slots(lines) => write_items(out, "slots", lines.as_slice()),
         Answer::Plan(plan) => write_items(out, "plan", plan.as_slice()),
@@ -74,21 +83,21 @@ pub(crate) fn write_answer(out: &mut Writer, answer: &Answer) -> Result<(), Allo
         } => write_object(
             out,
             &[
-                number("base", base.0),
-                text("level", level_word(*level)),
-                number("next", *next),
-                text("pool", pool.as_str()),
-                number("saved", saved.0),
-                number("ssid", ssid.0),
+                Member("base", Number(base.0)),
+                Member("level", Text(level_word(*level))),
+                Member("next", Number(*next)),
+                Member("pool", Text(pool.as_str())),
+                Member("saved", Number(saved.0)),
+                Member("ssid", Number(ssid.0)),
             ],
         ),
-        Answer::Next { next } => write_object(out, &[number("next", *next)]),
+        Answer::Next { next } => write_object(out, &[Member("next", Number(*next))]),
         Answer::Finished { bytes, files, ssid } => write_object(
             out,
             &[
-                number("bytes", *bytes),
-                number("files", u64::from(*files)),
-                number("ssid", ssid.0),
+                Member("bytes", Number(*bytes)),
+                Member("files", Number(u64::from(*files))),
+                Member("ssid", Number(ssid.0)),
             ],
         ),
         Answer::Purged(ssids) => write_items(out, "purged", ssids.as_slice()),

@@ -1,11 +1,11 @@
 //! The members of an object, and the writing of one.
 
-ghost use Rattle.std.specs.Prelude.{◌≡◌, map};
+ghost use Rattle.std.specs.Prelude.{map};
 ghost use Rattle.hex.specs.Hex.{encode_lower};
-ghost use Rattle.json.specs.Json.{string, boolean};
+ghost use Rattle.json.specs.Json.{string};
 ghost use Rattle.json.specs.Tree.{json_tokens};
 ghost use Rattle.desk_reply.specs.Members.{value_json, member_of};
-ghost use Rattle.desk_reply.specs.Values.{whole, json_object};
+ghost use Rattle.desk_reply.specs.Values.{json_object};
 ghost use Rattle.desk_reply.specs.Writing.{Adds, member_tokens, list_tokens};
 
 use crate::shown::write_list;
@@ -23,47 +23,9 @@ pub(crate) enum Value<'a> {
     Ssids(&'a [Ssid]),
 }
 
+/// A key, and what it says.
 #[derive(Clone, Copy)]
-pub(crate) struct Member<'a> {
-    pub key: &'static str,
-    pub value: Value<'a>,
-}
-
-pub(crate) fn number<'a>(key: &'static str, number: u64) -> Member<'a>
-    ensures { member_of result ≡ (key.now, whole number) }
-{
-    Member {
-        key,
-        value: Value::Number(number),
-    }
-}
-
-pub(crate) fn text<'a>(key: &'static str, text: &'a str) -> Member<'a>
-    ensures { member_of result ≡ (key.now, string text.now) }
-{
-    Member {
-        key,
-        value: Value::Text(text),
-    }
-}
-
-pub(crate) fn flag<'a>(key: &'static str, flag: bool) -> Member<'a>
-    ensures { member_of result ≡ (key.now, boolean flag) }
-{
-    Member {
-        key,
-        value: Value::Flag(flag),
-    }
-}
-
-pub(crate) fn digest<'a>(key: &'static str, digest: &'a [u8; 32]) -> Member<'a>
-    ensures { member_of result ≡ (key.now, string (encode_lower digest.now)) }
-{
-    Member {
-        key,
-        value: Value::Digest(digest),
-    }
-}
+pub(crate) struct Member<'a>(pub &'static str, pub Value<'a>);
 
 /// The object of these members.
 pub(crate) fn write_object(out: &mut Writer, members: &[Member<'_>]) -> Result<(), AllocError>
@@ -79,8 +41,8 @@ pub(crate) fn put_members(out: &mut Writer, members: &[Member<'_>]) -> Result<()
     ensures { Adds result out.old out.new (list_tokens (map member_of members.now)) }
 {
     for member in members {
-        out.key(member.key)?;
-        write_value(out, &member.value)?;
+        out.key(member.0)?;
+        write_value(out, &member.1)?;
     }
     Ok(())
 }

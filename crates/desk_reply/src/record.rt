@@ -6,7 +6,8 @@ ghost use Rattle.desk_reply.specs.Records.{section_json, copy_json, record_json}
 ghost use Rattle.desk_reply.specs.Records.{first_members, last_members};
 ghost use Rattle.desk_reply.specs.Writing.{Adds, list_tokens};
 
-use crate::member::{digest, flag, number, put_members, text};
+use crate::member::Value::{Digest, Flag, Number, Text};
+use crate::member::{Member, put_members};
 use crate::shown::{Shown, put_list};
 use crate::word::{copy_state_word, level_word, record_state_word};
 use json::Writer;
@@ -33,9 +34,9 @@ impl Shown for SetCopy {
 
     fn write(&self, out: &mut Writer) -> Result<(), AllocError> {
         out.begin_object()?;
-        put_members(out, &[number("no", u64::from(self.no.0))])?;
+        put_members(out, &[Member("no", Number(u64::from(self.no.0)))])?;
         put_list(out, "sections", self.sections.as_slice())?;
-        put_members(out, &[text("state", copy_state_word(self.state))])?;
+        put_members(out, &[Member("state", Text(copy_state_word(self.state)))])?;
         out.end_object()
     }
 }
@@ -56,11 +57,11 @@ fn put_first(out: &mut Writer, row: &Record) -> Result<(), AllocError>
     put_members(
         out,
         &[
-            number("base", row.base.0),
-            number("browse", row.browse.0),
-            number("bytes", row.bytes),
-            number("changed", row.changed),
-            text("client", row.client.as_str()),
+            Member("base", Number(row.base.0)),
+            Member("browse", Number(row.browse.0)),
+            Member("bytes", Number(row.bytes)),
+            Member("changed", Number(row.changed)),
+            Member("client", Text(row.client.as_str())),
         ],
     )
 }
@@ -71,19 +72,19 @@ fn put_last(out: &mut Writer, row: &Record) -> Result<(), AllocError>
     put_members(
         out,
         &[
-            digest("digest", &row.digest),
-            number("files", u64::from(row.files)),
-            text("group", row.group.as_str()),
-            flag("hold", row.hold),
-            text("level", level_word(row.level)),
-            number("next_copy", u64::from(row.next_copy)),
-            text("pool", row.pool.as_str()),
-            flag("purged", row.purged),
-            number("retain", row.retain.0),
-            number("saved", row.saved.0),
-            text("set", row.set.as_str()),
-            number("ssid", row.ssid.0),
-            text("state", record_state_word(row.state)),
+            Member("digest", Digest(&row.digest)),
+            Member("files", Number(u64::from(row.files))),
+            Member("group", Text(row.group.as_str())),
+            Member("hold", Flag(row.hold)),
+            Member("level", Text(level_word(row.level))),
+            Member("next_copy", Number(u64::from(row.next_copy))),
+            Member("pool", Text(row.pool.as_str())),
+            Member("purged", Flag(row.purged)),
+            Member("retain", Number(row.retain.0)),
+            Member("saved", Number(row.saved.0)),
+            Member("set", Text(row.set.as_str())),
+            Member("ssid", Number(row.ssid.0)),
+            Member("state", Text(record_state_word(row.state))),
         ],
     )
 }

@@ -10,7 +10,8 @@ ghost use Rattle.desk_reply.specs.Refused.{refusal_json, title_members};
 ghost use Rattle.desk_reply.specs.Members.{member_of};
 ghost use Rattle.desk_reply.specs.Writing.{Adds};
 
-use crate::member::{Member, Value, number, text, write_object};
+use crate::member::Value::{Number, Text};
+use crate::member::{Member, Value, write_object};
 use http::StatusCode;
 use json::Writer;
 use room_base::{Field, FieldValue, Fields, Refusal};
@@ -49,29 +50,27 @@ fn title<'a>(refusal: &'a Refusal) -> [Member<'a>; 2]
     ensures { map member_of result ≡ title_members refusal.now }
 {
     [
-        number("no", u64::from(refusal.number())),
-        text("refusal", refusal.name()),
+        Member("no", Number(u64::from(refusal.number()))),
+        Member("refusal", Text(refusal.name())),
     ]
 }
 
 fn member<'a>(field: Field<'a>) -> Member<'a>
     ensures { member_of result ≡ field_member (named_value field.entry) }
 {
-    Member {
-        key: field.name,
-        value: match field.value {
-            FieldValue::Number(number) => Value::Number(number),
-            FieldValue::Text(text) => Value::Text(text),
-            FieldValue::Digest(digest) => Value::Digest(digest),
-            FieldValue::Ssids(ssids) => Value::Ssids(ssids),
-        },
-    }
+    let value = match field.value {
+        FieldValue::Number(number) => Value::Number(number),
+        FieldValue::Text(text) => Value::Text(text),
+        FieldValue::Digest(digest) => Value::Digest(digest),
+        FieldValue::Ssids(ssids) => Value::Ssids(ssids),
+    };
+    Member(field.name, value)
 }
 
 fn is_above(one: &Member<'_>, other: &Member<'_>) -> bool
-    ensures { result ≡ is_gt (slice_cmp nat_cmp one.now.key.now other.now.key.now) }
+    ensures { result ≡ is_gt (slice_cmp nat_cmp one.now.0.now other.now.0.now) }
 {
-    one.key.cmp(other.key) == Ordering::Greater
+    one.0.cmp(other.0) == Ordering::Greater
 }
 
 // The member before the first one whose key is greater.

@@ -1,7 +1,8 @@
 //! The text of a reply.
 
-ghost use Rattle.std.specs.Prelude.{◌≡◌, IfOk};
+ghost use Rattle.std.specs.Prelude.{◌≡◌, ◌++◌, IfOk, OnOk};
 ghost use Rattle.desk_reply.specs.Replies.{reply_status, reply_json, reply_bytes, with_head};
+ghost use Rattle.desk_reply.specs.Replies.{status_line, length_line};
 ghost use Rattle.desk_reply.specs.Writing.{Adds};
 ghost use Rattle.json.specs.Tree.{json_tokens};
 
@@ -51,14 +52,32 @@ fn with_head(alloc: Global, status: StatusCode, body: &[u8]) -> Result<Vec<u8>, 
     ensures { IfOk result (λ text. text.items ≡ with_head status body.now) }
 {
     let mut text = Vec::with_capacity(alloc, HEAD_ROOM.saturating_add(body.len()))?;
+    put_status(&mut text, status)?;
+    text.extend_from_slice(b"Content-Type: application/json\r\n")?;
+    put_length(&mut text, body.len())?;
+    text.extend_from_slice(b"\r\n")?;
+    text.extend_from_slice(body)?;
+    Ok(text)
+}
+
+#[tactic(auto, using(crate::proofs::Heads::status_appended))]
+fn put_status(text: &mut Vec<u8>, status: StatusCode) -> Result<(), AllocError>
+    ensures { OnOk result (text.new.items ≡ text.old.items ++ status_line status) }
+{
     let mut digits = Buffer::new();
     text.extend_from_slice(b"HTTP/1.1 ")?;
     text.extend_from_slice(digits.format(status.as_u16()).as_bytes())?;
     text.extend_from_slice(b" ")?;
     text.extend_from_slice(status.canonical_reason().unwrap_or("").as_bytes())?;
-    text.extend_from_slice(b"\r\nContent-Type: application/json\r\nContent-Length: ")?;
-    text.extend_from_slice(digits.format(body.len()).as_bytes())?;
-    text.extend_from_slice(b"\r\n\r\n")?;
-    text.extend_from_slice(body)?;
-    Ok(text)
+    text.extend_from_slice(b"\r\n")
+}
+
+#[tactic(auto, using(crate::proofs::Heads::length_appended))]
+fn put_length(text: &mut Vec<u8>, length: usize) -> Result<(), AllocError>
+    ensures { OnOk result (text.new.items ≡ text.old.items ++ length_line length) }
+{
+    let mut digits = Buffer::new();
+    text.extend_from_slice(b"Content-Length: ")?;
+    text.extend_from_slice(digits.format(length).as_bytes())?;
+    text.extend_from_slice(b"\r\n")
 }
