@@ -1,5 +1,6 @@
 -- The tokens of lists and objects.
 use Rattle.std.proofs.Common.{◌≡◌, ◌≤◌, ℕ, List, [], ◌∷◌, ◌++◌, map, take, length, Result, refl, ap, sym, ◌∙◌, append_assoc, take_all}
+use Rattle.std.proofs.lemmas.List.Concat.{flat_map-append}
 use Rattle.std.proofs.lemmas.Result.{on_ok_weaker}
 use Rattle.std.specs.List.{flat_map}
 use Rattle.json.specs.Json.{Json}
@@ -53,3 +54,12 @@ pub object_closed : {E : Type 0} (members : List (List ℕ × Json)) (result : R
     → Adds result old new (json_tokens (json_object members))
 object_closed members result old mid new tokens before writes =
     rw members_written (closed result old mid new begin_object end_object (list_tokens members) tokens before writes)
+
+-- members before one, that one, and those behind it
+pub around : (first last : List (List ℕ × Json)) (one : List ℕ × Json) (start : List Token)
+    → ((start ++ list_tokens first) ++ member_tokens one) ++ list_tokens last
+    ≡ start ++ list_tokens (first ++ (one ∷ last))
+around first last one start =
+    append_assoc (start ++ list_tokens first) (member_tokens one) (list_tokens last)
+    ∙ append_assoc start (list_tokens first) (member_tokens one ++ list_tokens last)
+    ∙ ap (λ (list : List Token). start ++ list) (sym (flat_map-append member_tokens first (one ∷ last)))
