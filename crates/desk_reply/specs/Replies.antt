@@ -1,8 +1,8 @@
 -- The bytes of a reply.
-use Rattle.std.specs.Prelude.{ℕ, List, [], ◌++◌, length, codes, unwrap_or}
+use Rattle.std.specs.Prelude.{◌≡◌, ◌<◌, ◌^◌, ℕ, List, [], ◌++◌, length, codes, unwrap_or, Some}
 use Rattle.std.specs.Fmt.{decimal}
 use Rattle.http.specs.StatusCode.{reason_phrase}
-use Rattle.json.specs.Json.{Json}
+use Rattle.json.specs.Json.{Json, document}
 use Rattle.room_base.specs.Refusals.{refusal_number}
 use Rattle.room_command.specs.declared.reply.Reply.{Reply}
 use Rattle.room_command.specs.declared.reply.Reply.TheVariants.{Done, Refused}
@@ -45,3 +45,8 @@ with_head status body =
 
 abbrev pub reply_bytes : Reply → List ℕ
 reply_bytes reply = with_head (reply_status reply) (body_bytes reply)
+
+-- the body is a text of JSON that is read as the reply's value, and its length can be said
+abbrev pub IsReadable : Reply → Type 0
+IsReadable reply =
+    (document (body_bytes reply) ≡ Some (reply_json reply)) × (length (body_bytes reply) < 2 ^ 64)

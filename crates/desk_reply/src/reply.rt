@@ -1,8 +1,9 @@
 //! The text of a reply.
 
-ghost use Rattle.std.specs.Prelude.{◌≡◌, ◌++◌, IfOk, OnOk};
-ghost use Rattle.desk_reply.specs.Replies.{reply_status, reply_json, reply_bytes, with_head};
-ghost use Rattle.desk_reply.specs.Replies.{status_line, length_line};
+ghost use Rattle.std.specs.Prelude.{◌≡◌, ◌<◌, ◌^◌, ◌++◌, length, IfOk, OnOk};
+ghost use Rattle.json.specs.Lex.{tokens};
+ghost use Rattle.desk_reply.specs.Replies.{reply_status, reply_json, body_bytes, reply_bytes};
+ghost use Rattle.desk_reply.specs.Replies.{status_line, length_line, with_head, IsReadable};
 ghost use Rattle.desk_reply.specs.Writing.{Adds};
 ghost use Rattle.json.specs.Tree.{json_tokens};
 
@@ -22,12 +23,13 @@ const BODY_ROOM: usize = 256;
 const HEAD_ROOM: usize = 128;
 
 /// The bytes of a reply, head and body, so that it can be sent by one write.
+#[tactic(auto, using(crate::proofs::Reading::reads_back))]
 pub fn reply_text(alloc: Global, reply: &Reply) -> Result<Vec<u8>, Memory>
-    ensures { IfOk result (λ text. text.items ≡ reply_bytes reply.now) }
+    ensures text { IfOk result (λ text. text.items ≡ reply_bytes reply.now) }
+    ensures readable { OnOk result (IsReadable reply.now) }
 {
-    let mut out = Writer::new(Vec::with_capacity(alloc, BODY_ROOM)?);
-    write_body(&mut out, reply)?;
-    with_head(alloc, status(reply), &out.into_inner())
+    let body = body_text(alloc, reply)?;
+    with_head(alloc, status(reply), &body)
 }
 
 fn status(reply: &Reply) -> StatusCode
@@ -37,6 +39,15 @@ fn status(reply: &Reply) -> StatusCode
         Reply::Done(_) => StatusCode::OK,
         Reply::Refused(refusal) => refusal_status(refusal),
     }
+}
+
+fn body_text(alloc: Global, reply: &Reply) -> Result<Vec<u8>, Memory>
+    ensures text { IfOk result (λ body. body.items ≡ body_bytes reply.now) }
+    ensures tokens { OnOk result (tokens (body_bytes reply.now) ≡ json_tokens (reply_json reply.now)) }
+{
+    let mut out = Writer::new(Vec::with_capacity(alloc, BODY_ROOM)?);
+    write_body(&mut out, reply)?;
+    Ok(out.into_inner())
 }
 
 fn write_body(out: &mut Writer, reply: &Reply) -> Result<(), AllocError>
@@ -49,7 +60,8 @@ fn write_body(out: &mut Writer, reply: &Reply) -> Result<(), AllocError>
 }
 
 fn with_head(alloc: Global, status: StatusCode, body: &[u8]) -> Result<Vec<u8>, Memory>
-    ensures { IfOk result (λ text. text.items ≡ with_head status body.now) }
+    ensures text { IfOk result (λ text. text.items ≡ with_head status body.now) }
+    ensures length { length body.now < 2 ^ 64 }
 {
     let mut text = Vec::with_capacity(alloc, HEAD_ROOM.saturating_add(body.len()))?;
     put_status(&mut text, status)?;
