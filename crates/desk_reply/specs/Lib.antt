@@ -1,5 +1,6 @@
 pub mod Answers
 pub mod Members
+pub mod Reading
 pub mod Records
 pub mod Refused
 pub mod Replies

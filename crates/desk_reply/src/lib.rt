@@ -3,6 +3,7 @@
 #![tactic(auto)]
 
 mod answer;
+mod laws;
 mod member;
 mod record;
 mod refused;
@@ -10,4 +11,8 @@ mod reply;
 mod shown;
 mod word;
 
+pub use laws::{
+    bodies_have_their_length, keys_ascend_in_replies, one_text_one_value,
+    refusals_have_their_fields,
+};
 pub use reply::reply_text;
