@@ -1,6 +1,6 @@
 -- The lines of a head, as they are appended part by part.
 use Rattle.std.proofs.Common.{◌≡◌, ℕ, List, ◌++◌, codes, decimal, append_assoc}
-use Rattle.desk_reply.specs.Replies.{status_line, type_line, length_line, phrase}
+use Rattle.desk_reply.specs.Replies.{status_line, length_line, phrase}
 
 pub status_appended : (old : List ℕ) (status : ℕ)
     → ((((old ++ codes "HTTP/1.1 ") ++ decimal status) ++ codes " ") ++ phrase status) ++ codes "\r\n"

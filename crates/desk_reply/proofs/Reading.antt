@@ -1,6 +1,6 @@
 -- The text of a reply's value is read as that value.
-use Rattle.std.proofs.Common.{◌≡◌, ◌≤◌, ◌+◌, ℕ, suc, max, List, [], ◌∷◌, ◌++◌, map, Some, option_and_then, refl, sym, ap, ◌∙◌, arith, append-nil}
-use Rattle.json.specs.Json.{Json, array, Items, value, if_last, document, max_depth}
+use Rattle.std.proofs.Common.{◌≡◌, ◌≤◌, ℕ, List, [], ◌∷◌, map, Some, option_and_then, sym, ap, ◌∙◌, arith, append-nil}
+use Rattle.json.specs.Json.{Json, value, if_last, document, max_depth}
 use Rattle.json.specs.Lex.{tokens}
 use Rattle.json.specs.Tree.{json_tokens, depth, items_depth}
 use Rattle.json.proofs.Printed.Trees.{value-json_tokens}
@@ -13,7 +13,7 @@ use Rattle.room_command.specs.declared.answer.Answer.{Answer}
 use Rattle.room_command.specs.declared.answer.Answer.TheVariants as answers
 use Rattle.room_command.specs.declared.reply.Reply.{Reply}
 use Rattle.room_command.specs.declared.reply.Reply.TheVariants.{Done, Refused}
-use Rattle.desk_reply.specs.Values.{items_of, json_list, json_text}
+use Rattle.desk_reply.specs.Values.{items_of}
 use Rattle.desk_reply.specs.Records.{section_json, copy_json}
 use Rattle.desk_reply.specs.Answers.{answer_json, slot_json, planned_json, ssid_json}
 use Rattle.desk_reply.specs.Refused.{refusal_json}

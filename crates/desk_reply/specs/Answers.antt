@@ -1,5 +1,5 @@
 -- Answers as values of JSON. The keys of each object stand in the order of their bytes.
-use Rattle.std.specs.Prelude.{ℕ, List, [], ◌∷◌, codes}
+use Rattle.std.specs.Prelude.{[], ◌∷◌, codes}
 use Rattle.json.specs.Json.{Json, string}
 use Rattle.room_base.specs.declared.numbers.Ssid.{Ssid}
 use Rattle.room_command.specs.declared.answer.Answer.{Answer}

@@ -1,5 +1,5 @@
 -- The members of an object as they are handed to its writer.
-use Rattle.std.specs.Prelude.{ℕ, List, [], ◌∷◌, map, codes}
+use Rattle.std.specs.Prelude.{ℕ, List}
 use Rattle.hex.specs.Hex.{encode_lower}
 use Rattle.json.specs.Json.{Json, string, boolean}
 use Rattle.desk_reply.specs.declared.member.Member.{Member}
