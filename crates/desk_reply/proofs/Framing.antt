@@ -58,12 +58,12 @@ length_said reply readable =
 status_digits : (reply : Reply) → take 3 (drop 9 (reply_bytes reply)) ≡ decimal (reply_status reply)
 status_digits reply = (parted reply).digits_found (body_bytes reply)
 
-same_status : (one other : Reply) → reply_bytes one ≡ reply_bytes other → reply_status one ≡ reply_status other
+pub same_status : (one other : Reply) → reply_bytes one ≡ reply_bytes other → reply_status one ≡ reply_status other
 same_status one other same =
     decimal_injective (reply_status one) (reply_status other) (parted one).small (parted other).small
     (sym (status_digits one) ∙ ap (λ (text : List ℕ). take 3 (drop 9 text)) same ∙ status_digits other)
 
-same_value : (one other : Reply) → IsReadable one → IsReadable other → reply_bytes one ≡ reply_bytes other
+pub same_value : (one other : Reply) → IsReadable one → IsReadable other → reply_bytes one ≡ reply_bytes other
     → reply_json one ≡ reply_json other
 same_value one other readable other_readable same =
     let bodies : body_bytes one ≡ body_bytes other =

@@ -43,7 +43,8 @@ fn status(reply: &Reply) -> StatusCode
 
 fn body_text(alloc: Global, reply: &Reply) -> Result<Vec<u8>, Memory>
     ensures text { IfOk result (λ body. body.items ≡ body_bytes reply.now) }
-    ensures tokens { OnOk result (tokens (body_bytes reply.now) ≡ json_tokens (reply_json reply.now)) }
+    ensures tokens { OnOk result
+        (tokens (body_bytes reply.now) ≡ json_tokens (reply_json reply.now)) }
 {
     let mut out = Writer::new(Vec::with_capacity(alloc, BODY_ROOM)?);
     write_body(&mut out, reply)?;
