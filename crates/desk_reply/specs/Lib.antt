@@ -1,0 +1,9 @@
+pub mod Answers
+pub mod Members
+pub mod Reading
+pub mod Records
+pub mod Refused
+pub mod Replies
+pub mod Values
+pub mod Words
+pub mod Writing
