@@ -1,0 +1,72 @@
+-- Which request asks for which command: the method and the target of each.
+use Rattle.std.specs.Prelude.{◌≡◌, ◌≢◌, ℕ, ◌<◌, ◌==◌, Bool, List, [], ◌∷◌, ◌++◌, length, codes, All}
+use Rattle.std.specs.List.{flat_map}
+use Rattle.catalog_change.specs.declared.resource.ResourceKind.{ResourceKind}
+use Rattle.catalog_change.specs.declared.resource.ResourceKind.TheVariants as kinds
+
+-- A line of the table of routes. What stands in braces there is a part of the target.
+pub data Route : Type 0 where
+  Define : Route
+  Drop : ResourceKind → List ℕ → Route
+  Load : List ℕ → Route
+  Eject : List ℕ → Route
+  Label : Route
+  Mount : Route
+  Unmount : Route
+  Inventory : Route
+  Savegrp : List ℕ → Route
+  Begin : Route
+  Append : List ℕ → List ℕ → Route
+  Finish : List ℕ → Route
+  Abort : List ℕ → Route
+  Amend : List ℕ → Route
+  Delete : List ℕ → Route
+  Nsrim : Route
+  Show : List ℕ → Route
+
+-- the word of a kind of resources
+abbrev pub kind_word : ResourceKind → List ℕ
+kind_word kinds.Policy = codes "policy"
+kind_word kinds.Pool = codes "pool"
+kind_word kinds.Client = codes "client"
+kind_word kinds.Schedule = codes "schedule"
+kind_word kinds.Group = codes "group"
+
+abbrev pub method_of : Route → List ℕ
+method_of Define = codes "POST"
+method_of (Drop kind name) = codes "DELETE"
+method_of (Load slot) = codes "POST"
+method_of (Eject slot) = codes "DELETE"
+method_of Label = codes "POST"
+method_of Mount = codes "POST"
+method_of Unmount = codes "POST"
+method_of Inventory = codes "GET"
+method_of (Savegrp group) = codes "GET"
+method_of Begin = codes "POST"
+method_of (Append ssid offset) = codes "PUT"
+method_of (Finish ssid) = codes "POST"
+method_of (Abort ssid) = codes "POST"
+method_of (Amend ssid) = codes "POST"
+method_of (Delete ssid) = codes "DELETE"
+method_of Nsrim = codes "POST"
+method_of (Show ssid) = codes "GET"
+
+-- the parts of its target
+abbrev pub parts_of : Route → List (List ℕ)
+parts_of Define = codes "resources" ∷ []
+parts_of (Drop kind name) = codes "resources" ∷ kind_word kind ∷ name ∷ []
+parts_of (Load slot) = codes "slots" ∷ slot ∷ []
+parts_of (Eject slot) = codes "slots" ∷ slot ∷ []
+parts_of Label = codes "label" ∷ []
+parts_of Mount = codes "mount" ∷ []
+parts_of Unmount = codes "unmount" ∷ []
+parts_of Inventory = codes "inventory" ∷ []
+parts_of (Savegrp group) = codes "savegrp" ∷ group ∷ []
+parts_of Begin = codes "sets" ∷ []
+parts_of (Append ssid offset) = codes "sets" ∷ ssid ∷ codes "body" ∷ offset ∷ []
+parts_of (Finish ssid) = codes "sets" ∷ ssid ∷ codes "finish" ∷ []
+parts_of (Abort ssid) = codes "sets" ∷ ssid ∷ codes "abort" ∷ []
+parts_of (Amend ssid) = codes "sets" ∷ ssid ∷ codes "amend" ∷ []
+parts_of (Delete ssid) = codes "sets" ∷ ssid ∷ []
+parts_of Nsrim = codes "nsrim" ∷ []
+parts_of (Show ssid) = codes "sets" ∷ ssid ∷ []

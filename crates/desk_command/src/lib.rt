@@ -1,0 +1,5 @@
+//! From a request to the command that it asks for. docs/http.md has the table of the routes, and
+//! says which refusal is answered where a request asks for no command.
+#![tactic(auto)]
+
+mod route;
