@@ -1,8 +1,10 @@
 -- Which request asks for which command: the method and the target of each.
-use Rattle.std.specs.Prelude.{◌≡◌, ◌≢◌, ℕ, ◌<◌, ◌==◌, Bool, List, [], ◌∷◌, ◌++◌, length, codes, All}
+use Rattle.std.specs.Prelude.{◌≡◌, ℕ, ◌<◌, ◌==◌, Bool, false, List, [], ◌∷◌, length, codes, All}
 use Rattle.std.specs.List.{flat_map}
 use Rattle.catalog_change.specs.declared.resource.ResourceKind.{ResourceKind}
 use Rattle.catalog_change.specs.declared.resource.ResourceKind.TheVariants as kinds
+use Rattle.desk_command.specs.declared.route.Route.{Route as TakenRoute}
+use Rattle.desk_command.specs.declared.route.Route.TheVariants as taken
 
 -- A line of the table of routes. What stands in braces there is a part of the target.
 pub data Route : Type 0 where
@@ -70,3 +72,51 @@ parts_of (Amend ssid) = codes "sets" ∷ ssid ∷ codes "amend" ∷ []
 parts_of (Delete ssid) = codes "sets" ∷ ssid ∷ []
 parts_of Nsrim = codes "nsrim" ∷ []
 parts_of (Show ssid) = codes "sets" ∷ ssid ∷ []
+
+-- the byte between the parts of a target
+abbrev pub slash : ℕ
+slash = 47
+
+abbrev pub is_slash : ℕ → Bool
+is_slash byte = byte == slash
+
+-- a part has a byte at least, and no slash
+abbrev pub IsPart : List ℕ → Type 0
+IsPart part = (0 < length part) × All (λ byte. is_slash byte ≡ false) part
+
+-- the target that is these parts, each behind a slash
+abbrev pub behind_slash : List ℕ → List ℕ
+behind_slash part = slash ∷ part
+
+abbrev pub target_of : List (List ℕ) → List ℕ
+target_of parts = flat_map behind_slash parts
+
+-- a method and the parts of a target are those of a route
+abbrev pub IsOf : List ℕ → List (List ℕ) → Route → Type 0
+IsOf method parts route = (method ≡ method_of route) × (parts ≡ parts_of route)
+
+-- A request has a route: it has its method, and its target is the route's parts, each behind a slash.
+pub record HasRoute (method target : List ℕ) (route : Route) : Type 0 where
+  pub method_is : method ≡ method_of route
+  pub target_is : target ≡ target_of (parts_of route)
+  pub are_parts : All IsPart (parts_of route)
+
+-- the route as the code has it
+abbrev pub seen : TakenRoute → Route
+seen taken.Define = Define
+seen (taken.Drop kind name) = Drop kind name.now
+seen (taken.Load slot) = Load slot.now
+seen (taken.Eject slot) = Eject slot.now
+seen taken.Label = Label
+seen taken.Mount = Mount
+seen taken.Unmount = Unmount
+seen taken.Inventory = Inventory
+seen (taken.Savegrp group) = Savegrp group.now
+seen taken.Begin = Begin
+seen (taken.Append ssid offset) = Append ssid.now offset.now
+seen (taken.Finish ssid) = Finish ssid.now
+seen (taken.Abort ssid) = Abort ssid.now
+seen (taken.Amend ssid) = Amend ssid.now
+seen (taken.Delete ssid) = Delete ssid.now
+seen taken.Nsrim = Nsrim
+seen (taken.Show ssid) = Show ssid.now
