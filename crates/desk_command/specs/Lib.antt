@@ -1,2 +1,5 @@
 pub mod Routes
 pub mod Lines
+pub mod Outcomes
+pub mod Fields
+pub mod Commands

@@ -2,4 +2,8 @@
 //! says which refusal is answered where a request asks for no command.
 #![tactic(auto)]
 
+mod body;
+mod commands;
+mod part;
+mod refusing;
 mod route;
