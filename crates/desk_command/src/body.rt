@@ -1,6 +1,7 @@
 //! Bodies that are JSON objects, and their fields.
 
 ghost use Rattle.std.specs.Prelude.{◌≡◌, codes};
+ghost use Rattle.std.specs.List.{list_all};
 ghost use Rattle.serde_json.specs.Find.{as_bool};
 ghost use Rattle.serde_json.specs.View.{view};
 ghost use Rattle.desk_command.specs.Fields.{action_in, action_of, digest_in, digest_of, field};
@@ -222,13 +223,19 @@ pub(crate) fn digest_at(alloc: Global, object: &Value, key: &str) -> Result<[u8;
 fn digest_of(text: &str) -> Option<[u8; 32]>
     ensures { result ≡ digest_of text.now }
 {
-    if !text.as_bytes().iter().all(|digit| is_lower_digit(*digit)) {
+    if !is_in_lower_case(text) {
         return None;
     }
     match <[u8; 32] as FromHex>::from_hex(text) {
         Ok(digest) => Some(digest),
         Err(_) => None,
     }
+}
+
+fn is_in_lower_case(text: &str) -> bool
+    ensures { result ≡ list_all is_lower_digit text.now }
+{
+    text.as_bytes().iter().all(|digit| is_lower_digit(*digit))
 }
 
 fn is_lower_digit(digit: u8) -> bool

@@ -1,6 +1,8 @@
 //! Parts of a target that stand for numbers and names.
 
 ghost use Rattle.std.specs.Prelude.{◌≡◌};
+ghost use Rattle.std.specs.Char.{is_ascii_digit};
+ghost use Rattle.std.specs.List.{list_all};
 ghost use Rattle.desk_command.specs.Fields.{decimal_of, most_byte, most_long, name_part, number_part};
 ghost use Rattle.desk_command.specs.Commands.{ssid_part};
 ghost use Rattle.desk_command.specs.Outcomes.{Answers};
@@ -13,11 +15,17 @@ use std::alloc::Global;
 /// The most bytes of a name in a target.
 const MAX_NAME: u32 = 64;
 
+fn is_digits(part: &str) -> bool
+    ensures { result ≡ list_all is_ascii_digit part.now }
+{
+    part.as_bytes().iter().all(|byte| byte.is_ascii_digit())
+}
+
 // The number that decimal digits write, without a sign.
 fn decimal_of(part: &str) -> Option<u64>
     ensures { result ≡ decimal_of part.now }
 {
-    if part.is_empty() || !part.as_bytes().iter().all(|byte| byte.is_ascii_digit()) {
+    if part.is_empty() || !is_digits(part) {
         return None;
     }
     match part.parse::<u64>() {
