@@ -1,3 +1,6 @@
+pub mod Answering
 pub mod Decimals
 pub mod Names
 pub mod Objects
+pub mod Tables
+pub mod Targets

@@ -3,7 +3,7 @@ use Rattle.std.specs.Prelude.{◌≡◌, ◌⊎◌, ℕ, if◌then◌else◌, Li
 use Rattle.room_base.specs.declared.numbers.Cart.{Cart}
 use Rattle.room_base.specs.declared.numbers.Ssid.{Ssid}
 use Rattle.room_base.specs.declared.refusal.Refusal.{Refusal}
-use Rattle.room_base.specs.declared.refusal.Refusal.TheVariants.{NoSuch}
+use Rattle.room_base.specs.declared.refusal.Refusal.TheVariants.{NoMemory, NoSuch}
 use Rattle.room_command.specs.declared.command.Command.{Command}
 use Rattle.room_command.specs.declared.command.Command.TheVariants as commands
 use Rattle.catalog_change.specs.declared.resource.ResourceKind.{ResourceKind}
@@ -69,11 +69,16 @@ begin_of body =
     after (optional (codes "level") action_in object) (λ level.
     Ok (commands.Begin client set group level))))))
 
-abbrev pub append_of : List ℕ → List ℕ → List ℕ → Outcome Command
-append_of ssid offset body =
+abbrev pub append_place : List ℕ → List ℕ → Outcome (Ssid × ℕ)
+append_place ssid offset =
     after (ssid_part ssid) (λ ssid.
     after (number_part (codes "offset") most_long offset) (λ offset.
-    Ok (commands.Append ssid offset body)))
+    Ok (ssid, offset)))
+
+-- the body is the piece
+abbrev pub append_of : List ℕ → List ℕ → List ℕ → Outcome Command
+append_of ssid offset body =
+    after (append_place ssid offset) (λ place. Ok (commands.Append place.0 place.1 body))
 
 abbrev pub finish_of : List ℕ → List ℕ → Outcome Command
 finish_of ssid body =
@@ -131,3 +136,7 @@ CommandOf request outcome =
     × (outcome ≡ command_by route request.body))
     ⊎ (((route : Route) → ¬ (HasRoute request.method request.target route))
     × (outcome ≡ Err (no_route request.target)))
+
+-- what a call answers to a request; it may always lack memory
+abbrev pub AnswersRequest : RequestText → Outcome Command → Type 0
+AnswersRequest request result = CommandOf request result ⊎ (result ≡ Err NoMemory)

@@ -1,6 +1,7 @@
 -- Which request asks for which command: the method and the target of each.
-use Rattle.std.specs.Prelude.{◌≡◌, ℕ, ◌<◌, ◌==◌, Bool, false, List, [], ◌∷◌, length, codes, All}
-use Rattle.std.specs.List.{flat_map}
+use Rattle.std.specs.Prelude.{◌≡◌, ℕ, ◌==◌, Bool, IsTrue, ◌&&◌, not, nat_lt, List, [], ◌∷◌, length}
+use Rattle.std.specs.Prelude.{codes}
+use Rattle.std.specs.List.{flat_map, list_all, list_any}
 use Rattle.catalog_change.specs.declared.resource.ResourceKind.{ResourceKind}
 use Rattle.catalog_change.specs.declared.resource.ResourceKind.TheVariants as kinds
 use Rattle.desk_command.specs.declared.route.Route.{Route as TakenRoute}
@@ -81,8 +82,8 @@ abbrev pub is_slash : ℕ → Bool
 is_slash byte = byte == slash
 
 -- a part has a byte at least, and no slash
-abbrev pub IsPart : List ℕ → Type 0
-IsPart part = (0 < length part) × All (λ byte. is_slash byte ≡ false) part
+abbrev pub is_part : List ℕ → Bool
+is_part part = nat_lt 0 (length part) && not (list_any is_slash part)
 
 -- the target that is these parts, each behind a slash
 abbrev pub behind_slash : List ℕ → List ℕ
@@ -99,7 +100,7 @@ IsOf method parts route = (method ≡ method_of route) × (parts ≡ parts_of ro
 pub record HasRoute (method target : List ℕ) (route : Route) : Type 0 where
   pub method_is : method ≡ method_of route
   pub target_is : target ≡ target_of (parts_of route)
-  pub are_parts : All IsPart (parts_of route)
+  pub are_parts : IsTrue (list_all is_part (parts_of route))
 
 -- the route as the code has it
 abbrev pub seen : TakenRoute → Route

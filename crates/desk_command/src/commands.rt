@@ -2,7 +2,7 @@
 //! body.
 
 ghost use Rattle.std.specs.Prelude.{◌≡◌};
-ghost use Rattle.desk_command.specs.Commands.{amend_of, append_of, begin_of, drop_of, eject_of};
+ghost use Rattle.desk_command.specs.Commands.{amend_of, append_place, begin_of, drop_of, eject_of};
 ghost use Rattle.desk_command.specs.Commands.{finish_of, label_of, load_of, mount_of, of_set};
 ghost use Rattle.desk_command.specs.Commands.{savegrp_of, unmount_of};
 ghost use Rattle.desk_command.specs.Outcomes.{Answers};
@@ -13,7 +13,7 @@ use crate::body::{
     optional_name, optional_word, word_at,
 };
 use crate::part::{byte_part, long_part, name_part, ssid_part};
-use room_base::{Cart, Items, Refusal};
+use room_base::{Cart, Refusal, Ssid};
 use room_command::{Command, ResourceKind};
 use std::alloc::Global;
 
@@ -104,22 +104,17 @@ pub(crate) fn begin_of(alloc: Global, body: &[u8]) -> Result<Command, Refusal>
     })
 }
 
-/// The body is the piece.
-pub(crate) fn append_of(
+/// The save set and the offset of a piece.
+pub(crate) fn append_place(
     alloc: Global,
     ssid: &str,
     offset: &str,
-    piece: Vec<u8>,
-) -> Result<Command, Refusal>
-    ensures { Answers (append_of ssid.now offset.now piece.items) result }
+) -> Result<(Ssid, u64), Refusal>
+    ensures { Answers (append_place ssid.now offset.now) result }
 {
     let ssid = ssid_part(alloc, ssid)?;
     let offset = long_part(alloc, "offset", offset)?;
-    Ok(Command::Append {
-        ssid,
-        offset,
-        piece: Items::of(piece),
-    })
+    Ok((ssid, offset))
 }
 
 pub(crate) fn finish_of(alloc: Global, ssid: &str, body: &[u8]) -> Result<Command, Refusal>

@@ -2,8 +2,11 @@
 //! says which refusal is answered where a request asks for no command.
 #![tactic(auto)]
 
+mod asking;
 mod body;
 mod commands;
 mod part;
 mod refusing;
 mod route;
+
+pub use asking::command_of;

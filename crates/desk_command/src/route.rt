@@ -1,9 +1,12 @@
-ghost use Rattle.std.specs.Prelude.{◌≡◌, map, option_map};
-ghost use Rattle.desk_command.specs.Lines.{kind_of, line_at, line_of_body, line_of_part};
+ghost use Rattle.std.specs.Prelude.{◌≡◌, [], ◌∷◌, map, option_map, IfSome, IfOk};
+ghost use Rattle.std.specs.List.{list_all, slice_split};
+ghost use Rattle.desk_command.specs.Lines.{Finds, has_byte, kind_of, line_at, line_of_body, line_of_part};
 ghost use Rattle.desk_command.specs.Lines.{line_of_set, line_of_word};
-ghost use Rattle.desk_command.specs.Routes.{seen};
+ghost use Rattle.desk_command.specs.Routes.{IsOf, is_slash, kind_word, seen};
 
 use catalog_change::ResourceKind;
+use room_base::Memory;
+use std::alloc::{AllocError, Global};
 
 /// A line of the table of routes, with the parts of the target that it takes.
 #[derive(Clone, Copy, Debug)]
@@ -27,9 +30,54 @@ pub(crate) enum Route<'a> {
     Show { ssid: &'a str },
 }
 
-/// The route that has a method and these parts of a target.
-pub(crate) fn route_at<'a>(method: &str, parts: &[&'a str]) -> Option<Route<'a>>
-    ensures { option_map seen result ≡ line_at method.now (map (λ part. part.now) parts.now) }
+/// The route that a request has, by its method and its target.
+pub(crate) fn route_of<'a>(
+    alloc: Global,
+    method: &str,
+    target: &'a str,
+) -> Result<Option<Route<'a>>, Memory>
+    ensures { IfOk result (λ found. Finds method.now target.now (option_map seen found)) }
+{
+    let parts = split_of(alloc, target)?;
+    Ok(route_in(method, target, parts.as_slice()))
+}
+
+// The texts between the slashes of a target.
+fn split_of<'a>(alloc: Global, target: &'a str) -> Result<Vec<&'a str>, AllocError>
+    ensures { IfOk result (λ parts. map (λ part. part.now) parts.items
+        ≡ slice_split is_slash target.now) }
+{
+    target.split('/').collect(alloc)
+}
+
+// The route of a target that is split into these texts.
+fn route_in<'a>(method: &str, target: &str, split: &[&'a str]) -> Option<Route<'a>>
+    requires { map (λ part. part.now) split.now ≡ slice_split is_slash target.now }
+    ensures { Finds method.now target.now (option_map seen result) }
+{
+    let Some((first, parts)) = split.split_first() else {
+        return None;
+    };
+    if !first.is_empty() {
+        return None;
+    }
+    if !have_bytes(parts) {
+        return None;
+    }
+    route_at(method, parts)
+}
+
+fn have_bytes(parts: &[&str]) -> bool
+    ensures { result ≡ list_all (λ part. has_byte part.now) parts.now }
+{
+    parts.iter().all(|part| !part.is_empty())
+}
+
+// The route that has a method and these parts of a target.
+fn route_at<'a>(method: &str, parts: &[&'a str]) -> Option<Route<'a>>
+    ensures found { option_map seen result ≡ line_at method.now (map (λ part. part.now) parts.now) }
+    ensures is { IfSome result
+        (λ route. IsOf method.now (map (λ part. part.now) parts.now) (seen route)) }
 {
     match parts {
         [word] => route_of_word(method, word),
@@ -41,7 +89,8 @@ pub(crate) fn route_at<'a>(method: &str, parts: &[&'a str]) -> Option<Route<'a>>
 }
 
 fn route_of_word<'a>(method: &str, word: &str) -> Option<Route<'a>>
-    ensures { option_map seen result ≡ line_of_word method.now word.now }
+    ensures found { option_map seen result ≡ line_of_word method.now word.now }
+    ensures is { IfSome result (λ route. IsOf method.now (word.now ∷ []) (seen route)) }
 {
     match method {
         "POST" => match word {
@@ -62,7 +111,9 @@ fn route_of_word<'a>(method: &str, word: &str) -> Option<Route<'a>>
 }
 
 fn route_of_part<'a>(method: &str, place: &str, part: &'a str) -> Option<Route<'a>>
-    ensures { option_map seen result ≡ line_of_part method.now place.now part.now }
+    ensures found { option_map seen result ≡ line_of_part method.now place.now part.now }
+    ensures is { IfSome result
+        (λ route. IsOf method.now (place.now ∷ part.now ∷ []) (seen route)) }
 {
     match method {
         "POST" => match place {
@@ -89,7 +140,10 @@ fn route_of_set<'a>(
     part: &'a str,
     word: &'a str,
 ) -> Option<Route<'a>>
-    ensures { option_map seen result ≡ line_of_set method.now place.now part.now word.now }
+    ensures found { option_map seen result
+        ≡ line_of_set method.now place.now part.now word.now }
+    ensures is { IfSome result
+        (λ route. IsOf method.now (place.now ∷ part.now ∷ word.now ∷ []) (seen route)) }
 {
     match method {
         "POST" => match place {
@@ -119,8 +173,11 @@ fn route_of_body<'a>(
     word: &str,
     last: &'a str,
 ) -> Option<Route<'a>>
-    ensures { option_map seen result
+    ensures found { option_map seen result
         ≡ line_of_body method.now place.now part.now word.now last.now }
+    ensures is { IfSome result
+        (λ route. IsOf method.now
+        (place.now ∷ part.now ∷ word.now ∷ last.now ∷ []) (seen route)) }
 {
     if method == "PUT" && place == "sets" && word == "body" {
         Some(Route::Append {
@@ -133,7 +190,8 @@ fn route_of_body<'a>(
 }
 
 fn kind_of(word: &str) -> Option<ResourceKind>
-    ensures { result ≡ kind_of word.now }
+    ensures found { result ≡ kind_of word.now }
+    ensures is { IfSome result (λ kind. word.now ≡ kind_word kind) }
 {
     match word {
         "policy" => Some(ResourceKind::Policy),
