@@ -1,5 +1,5 @@
 -- Names by their test.
-use Rattle.std.proofs.Common.{◌≡◌, ◌≢◌, ℕ, ◌<◌, ◌≤◌, ◌&&◌, not, ◌==◌, Bool, true, false, nat_lt, nat_le, nat_eq, List, [], ◌∷◌, length, get_or, refl, arith}
+use Rattle.std.proofs.Common.{◌↔◌, IsTrue, ◌≡◌, ◌≢◌, ℕ, ◌<◌, ◌≤◌, ◌&&◌, not, ◌==◌, Bool, true, false, nat_lt, nat_le, nat_eq, List, [], ◌∷◌, length, get_or, refl, arith}
 use Rattle.std.specs.Prelude.{All}
 use Rattle.std.specs.List.{list_all, AllPass}
 use Rattle.std.specs.Str.{IsUtf8, is_utf8}
@@ -56,3 +56,6 @@ long_fails most text not_sized = not_true (is_name_to most text) (λ passes. not
 
 pub other_fails : (most : ℕ) (text : List ℕ) → ¬ (IsName text) → is_name_to most text ≡ false
 other_fails most text not_name = not_true (is_name_to most text) (λ passes. not_name (is_name most text passes).1)
+
+pub tests_name : (most : ℕ) (text : List ℕ) → IsTrue (is_name_to most text) ↔ (HasLength most text × IsName text)
+tests_name most text = (is_name most text, λ named. name_passes most text named.0 named.1)

@@ -8,7 +8,7 @@ use Rattle.std.proofs.lemmas.List.Folds.{list_all-map}
 use Rattle.std.proofs.lemmas.Bool.Decides.{nat_tests}
 use Rattle.desk_command.specs.Lines.{Finds, has_byte, line_at}
 use Rattle.desk_command.specs.Routes.{HasRoute, IsOf, Route, is_part, is_slash, parts_of, seen, slash, target_of}
-use Rattle.desk_command.specs.declared.route.Route.{Route as TakenRoute}
+use Rattle.desk_command.specs.declared.route.Route.{Route as LentRoute}
 use Rattle.desk_command.proofs.Tables.{is_found}
 
 not_false : (b : Bool) → not b ≡ true → b ≡ false
@@ -138,7 +138,7 @@ pub lent_bytes : (parts : List (Bor (List ℕ))) (b : Bool) → b ≡ list_all (
     → list_all has_byte (map (λ part. part.now) parts) ≡ b
 lent_bytes parts b is = list_all-map has_byte (λ part. part.now) parts ∙ sym is
 
-pub finds_line : (method target : List ℕ) (parts : List (List ℕ)) (found : Option TakenRoute) → slice_split is_slash target ≡ [] ∷ parts
+pub finds_line : (method target : List ℕ) (parts : List (List ℕ)) (found : Option LentRoute) → slice_split is_slash target ≡ [] ∷ parts
     → list_all has_byte parts ≡ true → option_map seen found ≡ line_at method parts
     → IfSome found (λ route. IsOf method parts (seen route)) → Finds method target (option_map seen found)
 finds_line method target parts None split some found is = no_line method target parts split (sym found)

@@ -9,8 +9,8 @@ use Rattle.room_command.specs.declared.command.Command.TheVariants as commands
 use Rattle.catalog_change.specs.declared.resource.ResourceKind.{ResourceKind}
 use Rattle.serde_json.specs.Find.{as_bool}
 use Rattle.desk_request.specs.Requests.{RequestText}
-use Rattle.desk_command.specs.Fields.{action_in, digest_in, field, is_name_to, most_byte, most_long}
-use Rattle.desk_command.specs.Fields.{most_word, name_part, name_to, number_part, number_to}
+use Rattle.desk_command.specs.Fields.{action_in, digest_in, field, is_name_to, most_u8, most_u64}
+use Rattle.desk_command.specs.Fields.{most_u32, name_part, name_to, number_part, number_to}
 use Rattle.desk_command.specs.Fields.{object_in, optional}
 use Rattle.desk_command.specs.Outcomes.{Outcome, after}
 use Rattle.desk_command.specs.Routes.{HasRoute, Route, Define, Drop, Load, Eject, Label, Mount}
@@ -18,42 +18,42 @@ use Rattle.desk_command.specs.Routes.{Unmount, Inventory, Savegrp, Begin, Append
 use Rattle.desk_command.specs.Routes.{Amend, Delete, Nsrim, Show}
 
 abbrev pub ssid_part : List ℕ → Outcome Ssid
-ssid_part part = after (number_part (codes "ssid") most_long part) (λ ssid. Ok (record { 0 = ssid }))
+ssid_part part = after (number_part (codes "ssid") most_u64 part) (λ ssid. Ok (record { 0 = ssid }))
 
 abbrev pub drop_of : ResourceKind → List ℕ → Outcome Command
 drop_of kind name = after (name_part (codes "name") name) (λ name. Ok (commands.Drop kind name))
 
 abbrev pub load_of : List ℕ → List ℕ → Outcome Command
 load_of slot body =
-    after (number_part (codes "slot") most_byte slot) (λ slot.
+    after (number_part (codes "slot") most_u8 slot) (λ slot.
     after (object_in body) (λ object.
-    after (field (codes "cart") (number_to most_word) object) (λ cart.
+    after (field (codes "cart") (number_to most_u32) object) (λ cart.
     Ok (commands.Load slot (record { 0 = cart })))))
 
 abbrev pub eject_of : List ℕ → Outcome Command
 eject_of slot =
-    after (number_part (codes "slot") most_byte slot) (λ slot. Ok (commands.Eject slot))
+    after (number_part (codes "slot") most_u8 slot) (λ slot. Ok (commands.Eject slot))
 
 abbrev pub label_of : List ℕ → Outcome Command
 label_of body =
     after (object_in body) (λ object.
-    after (field (codes "slot") (number_to most_byte) object) (λ slot.
+    after (field (codes "slot") (number_to most_u8) object) (λ slot.
     after (field (codes "pool") (name_to 64) object) (λ pool.
-    after (field (codes "capacity") (number_to most_word) object) (λ capacity.
-    after (optional (codes "block") (number_to most_word) object) (λ block.
+    after (field (codes "capacity") (number_to most_u32) object) (λ capacity.
+    after (optional (codes "block") (number_to most_u32) object) (λ block.
     Ok (commands.Label slot pool capacity block))))))
 
 abbrev pub mount_of : List ℕ → Outcome Command
 mount_of body =
     after (object_in body) (λ object.
-    after (field (codes "slot") (number_to most_byte) object) (λ slot.
-    after (field (codes "drive") (number_to most_byte) object) (λ drive.
+    after (field (codes "slot") (number_to most_u8) object) (λ slot.
+    after (field (codes "drive") (number_to most_u8) object) (λ drive.
     Ok (commands.Mount slot drive))))
 
 abbrev pub unmount_of : List ℕ → Outcome Command
 unmount_of body =
     after (object_in body) (λ object.
-    after (field (codes "drive") (number_to most_byte) object) (λ drive.
+    after (field (codes "drive") (number_to most_u8) object) (λ drive.
     Ok (commands.Unmount drive)))
 
 abbrev pub savegrp_of : List ℕ → Outcome Command
@@ -72,7 +72,7 @@ begin_of body =
 abbrev pub append_place : List ℕ → List ℕ → Outcome (Ssid × ℕ)
 append_place ssid offset =
     after (ssid_part ssid) (λ ssid.
-    after (number_part (codes "offset") most_long offset) (λ offset.
+    after (number_part (codes "offset") most_u64 offset) (λ offset.
     Ok (ssid, offset)))
 
 -- the body is the piece
@@ -84,7 +84,7 @@ abbrev pub finish_of : List ℕ → List ℕ → Outcome Command
 finish_of ssid body =
     after (ssid_part ssid) (λ ssid.
     after (object_in body) (λ object.
-    after (field (codes "length") (number_to most_long) object) (λ length.
+    after (field (codes "length") (number_to most_u64) object) (λ length.
     after (field (codes "sha256") digest_in object) (λ sha256.
     Ok (commands.Finish ssid length sha256)))))
 
@@ -92,8 +92,8 @@ abbrev pub amend_of : List ℕ → List ℕ → Outcome Command
 amend_of ssid body =
     after (ssid_part ssid) (λ ssid.
     after (object_in body) (λ object.
-    after (optional (codes "browse") (number_to most_long) object) (λ browse.
-    after (optional (codes "retain") (number_to most_long) object) (λ retain.
+    after (optional (codes "browse") (number_to most_u64) object) (λ browse.
+    after (optional (codes "retain") (number_to most_u64) object) (λ retain.
     after (optional (codes "hold") as_bool object) (λ hold.
     Ok (commands.Amend ssid browse retain hold))))))
 

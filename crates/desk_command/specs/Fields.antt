@@ -1,6 +1,7 @@
 -- What a field of a JSON body stands for, and what a part of a target does.
 use Rattle.std.specs.Prelude.{ℕ, ◌^◌, ◌-◌, Bool, ◌&&◌, ◌||◌, not, is_some, ◌==◌, nat_lt, nat_le, if◌then◌else◌}
 use Rattle.std.specs.Prelude.{List, [], ◌∷◌, length, codes, Option, Some, None, Result, Ok, Err, option_map}
+use Rattle.std.specs.Prelude.{position}
 use Rattle.std.specs.Option.{option_and_then}
 use Rattle.std.specs.List.{list_all}
 use Rattle.std.specs.Char.{is_ascii_digit}
@@ -14,14 +15,14 @@ use Rattle.desk_command.specs.Lines.{is}
 use Rattle.desk_command.specs.Outcomes.{Outcome, or_malformed}
 
 -- the greatest numbers of one, four and eight bytes
-abbrev pub most_byte : ℕ
-most_byte = 2 ^ 8 - 1
+abbrev pub most_u8 : ℕ
+most_u8 = 2 ^ 8 - 1
 
-abbrev pub most_word : ℕ
-most_word = 2 ^ 32 - 1
+abbrev pub most_u32 : ℕ
+most_u32 = 2 ^ 32 - 1
 
-abbrev pub most_long : ℕ
-most_long = 2 ^ 64 - 1
+abbrev pub most_u64 : ℕ
+most_u64 = 2 ^ 64 - 1
 
 abbrev pub keep_if : {X : Type 0} → (X → Bool) → Option X → Option X
 keep_if allowed None = None
@@ -42,22 +43,14 @@ is_name_to most text =
 abbrev pub name_in : List ℕ → ℕ → List ℕ → Outcome (List ℕ)
 name_in field most text = or_malformed field (keep_if (is_name_to most) (Some text))
 
--- the rank of a level by its word, and 11 for `skip`
+-- the words of actions, from the one that stands for 0 on: the levels by their ranks, and `skip`
+abbrev pub action_words : List (List ℕ)
+action_words = codes "full" ∷ codes "1" ∷ codes "2" ∷ codes "3" ∷ codes "4" ∷ codes "5"
+    ∷ codes "6" ∷ codes "7" ∷ codes "8" ∷ codes "9" ∷ codes "incr" ∷ codes "skip" ∷ []
+
+-- the action of a word
 abbrev pub action_of : List ℕ → Option ℕ
-action_of word =
-    if is word (codes "full") then Some 0
-    else if is word (codes "1") then Some 1
-    else if is word (codes "2") then Some 2
-    else if is word (codes "3") then Some 3
-    else if is word (codes "4") then Some 4
-    else if is word (codes "5") then Some 5
-    else if is word (codes "6") then Some 6
-    else if is word (codes "7") then Some 7
-    else if is word (codes "8") then Some 8
-    else if is word (codes "9") then Some 9
-    else if is word (codes "incr") then Some 10
-    else if is word (codes "skip") then Some 11
-    else None
+action_of text = position (is text) action_words
 
 -- a hexadecimal digit that isn't in upper case
 abbrev pub is_lower_digit : ℕ → Bool
@@ -115,7 +108,7 @@ optional key reads value = optional_in key reads (get key value)
 -- the number that decimal digits write, without a sign, where 64 bits hold it
 abbrev pub decimal_of : List ℕ → Option ℕ
 decimal_of part =
-    if nat_lt 0 (length part) && list_all is_ascii_digit part && nat_le (digits_value 10 part) most_long
+    if nat_lt 0 (length part) && list_all is_ascii_digit part && nat_le (digits_value 10 part) most_u64
     then Some (digits_value 10 part)
     else None
 

@@ -42,14 +42,14 @@ abbrev pub line_of_part : List ℕ → List ℕ → List ℕ → Option Route
 line_of_part method place part =
     if is method (codes "POST") then (if is place (codes "slots") then Some (Load part) else None)
     else if is method (codes "GET") then (
-      if is place (codes "savegrp") then Some (Savegrp part)
-      else if is place (codes "sets") then Some (Show part)
-      else None
+    if is place (codes "savegrp") then Some (Savegrp part)
+    else if is place (codes "sets") then Some (Show part)
+    else None
     )
     else if is method (codes "DELETE") then (
-      if is place (codes "slots") then Some (Eject part)
-      else if is place (codes "sets") then Some (Delete part)
-      else None
+    if is place (codes "slots") then Some (Eject part)
+    else if is place (codes "sets") then Some (Delete part)
+    else None
     )
     else None
 
@@ -63,11 +63,11 @@ posted_to_set ssid word =
 abbrev pub line_of_set : List ℕ → List ℕ → List ℕ → List ℕ → Option Route
 line_of_set method place part word =
     if is method (codes "POST") then (
-      if is place (codes "sets") then posted_to_set part word else None
+    if is place (codes "sets") then posted_to_set part word else None
     )
     else if is method (codes "DELETE") then (
-      if is place (codes "resources") then option_map (λ kind. Drop kind word) (kind_of part)
-      else None
+    if is place (codes "resources") then option_map (λ kind. Drop kind word) (kind_of part)
+    else None
     )
     else None
 

@@ -4,8 +4,8 @@ use Rattle.std.specs.Prelude.{codes}
 use Rattle.std.specs.List.{flat_map, list_all, list_any}
 use Rattle.catalog_change.specs.declared.resource.ResourceKind.{ResourceKind}
 use Rattle.catalog_change.specs.declared.resource.ResourceKind.TheVariants as kinds
-use Rattle.desk_command.specs.declared.route.Route.{Route as TakenRoute}
-use Rattle.desk_command.specs.declared.route.Route.TheVariants as taken
+use Rattle.desk_command.specs.declared.route.Route.{Route as LentRoute}
+use Rattle.desk_command.specs.declared.route.Route.TheVariants as lent
 
 -- A line of the table of routes. What stands in braces there is a part of the target.
 pub data Route : Type 0 where
@@ -103,21 +103,21 @@ pub record HasRoute (method target : List ℕ) (route : Route) : Type 0 where
   pub are_parts : IsTrue (list_all is_part (parts_of route))
 
 -- the route as the code has it
-abbrev pub seen : TakenRoute → Route
-seen taken.Define = Define
-seen (taken.Drop kind name) = Drop kind name.now
-seen (taken.Load slot) = Load slot.now
-seen (taken.Eject slot) = Eject slot.now
-seen taken.Label = Label
-seen taken.Mount = Mount
-seen taken.Unmount = Unmount
-seen taken.Inventory = Inventory
-seen (taken.Savegrp group) = Savegrp group.now
-seen taken.Begin = Begin
-seen (taken.Append ssid offset) = Append ssid.now offset.now
-seen (taken.Finish ssid) = Finish ssid.now
-seen (taken.Abort ssid) = Abort ssid.now
-seen (taken.Amend ssid) = Amend ssid.now
-seen (taken.Delete ssid) = Delete ssid.now
-seen taken.Nsrim = Nsrim
-seen (taken.Show ssid) = Show ssid.now
+abbrev pub seen : LentRoute → Route
+seen lent.Define = Define
+seen (lent.Drop kind name) = Drop kind name.now
+seen (lent.Load slot) = Load slot.now
+seen (lent.Eject slot) = Eject slot.now
+seen lent.Label = Label
+seen lent.Mount = Mount
+seen lent.Unmount = Unmount
+seen lent.Inventory = Inventory
+seen (lent.Savegrp group) = Savegrp group.now
+seen lent.Begin = Begin
+seen (lent.Append ssid offset) = Append ssid.now offset.now
+seen (lent.Finish ssid) = Finish ssid.now
+seen (lent.Abort ssid) = Abort ssid.now
+seen (lent.Amend ssid) = Amend ssid.now
+seen (lent.Delete ssid) = Delete ssid.now
+seen lent.Nsrim = Nsrim
+seen (lent.Show ssid) = Show ssid.now

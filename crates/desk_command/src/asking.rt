@@ -62,14 +62,16 @@ pub fn command_of(alloc: Global, request: Request) -> Result<Command, Refusal>
 fn no_route(alloc: Global, target: &str) -> Refusal
     ensures { (result ≡ no_route target.now) ⊎ (result ≡ NoMemory) }
 {
-    match (Name::from_text(alloc, "route"), name_of_target(alloc, target)) {
+    match (
+        Name::from_text(alloc, "route"),
+        name_of_target(alloc, target),
+    ) {
         (Ok(kind), Ok(name)) => Refusal::NoSuch { kind, name },
         _ => Refusal::NoMemory,
     }
 }
 
-#[tactic(auto, using(crate::proofs::Names::name_passes, crate::proofs::Names::long_fails,
-    crate::proofs::Names::other_fails))]
+#[tactic(auto, using(crate::proofs::Names::name_passes, crate::proofs::Names::long_fails, crate::proofs::Names::other_fails))]
 fn name_of_target(alloc: Global, target: &str) -> Result<Name, Memory>
     ensures { IfOk result (λ name. name ≡ name_of_target target.now) }
 {

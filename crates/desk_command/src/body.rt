@@ -5,7 +5,7 @@ ghost use Rattle.std.specs.List.{list_all};
 ghost use Rattle.serde_json.specs.Find.{as_bool};
 ghost use Rattle.serde_json.specs.View.{view};
 ghost use Rattle.desk_command.specs.Fields.{action_in, action_of, digest_in, digest_of, field};
-ghost use Rattle.desk_command.specs.Fields.{most_byte, most_long, most_word, name_to, number_to};
+ghost use Rattle.desk_command.specs.Fields.{most_u8, most_u64, most_u32, name_to, number_to};
 ghost use Rattle.desk_command.specs.Fields.{is_lower_digit, object_in, optional, name_in};
 ghost use Rattle.desk_command.specs.Outcomes.{Answers, outcome_map};
 
@@ -16,8 +16,7 @@ use room_rules::Action;
 use serde_json::Value;
 use std::alloc::Global;
 
-#[tactic(auto, using(crate::proofs::Objects::object_there, crate::proofs::Objects::object_other,
-    crate::proofs::Objects::object_missing))]
+#[tactic(auto, using(crate::proofs::Objects::object_there, crate::proofs::Objects::object_other, crate::proofs::Objects::object_missing))]
 /// The JSON object that a body is.
 pub(crate) fn object_of(alloc: Global, body: &[u8]) -> Result<Value, Refusal>
     ensures { Answers (object_in body.now) (outcome_map view result) }
@@ -36,12 +35,7 @@ pub(crate) fn object_of(alloc: Global, body: &[u8]) -> Result<Value, Refusal>
 }
 
 // The whole number, at most `most`, that an object has at a key.
-fn number_at(
-    alloc: Global,
-    object: &Value,
-    key: &str,
-    most: u64,
-) -> Result<u64, Refusal>
+fn number_at(alloc: Global, object: &Value, key: &str, most: u64) -> Result<u64, Refusal>
     ensures { Answers (field key.now (number_to most) (view object.now)) result }
 {
     match object.get(key).and_then(Value::as_u64) {
@@ -51,35 +45,31 @@ fn number_at(
 }
 
 /// The number of one byte that an object has at a key.
-pub(crate) fn byte_at(alloc: Global, object: &Value, key: &str) -> Result<u8, Refusal>
-    ensures { Answers (field key.now (number_to most_byte) (view object.now)) result }
+pub(crate) fn u8_at(alloc: Global, object: &Value, key: &str) -> Result<u8, Refusal>
+    ensures { Answers (field key.now (number_to most_u8) (view object.now)) result }
 {
     let number = number_at(alloc, object, key, u64::from(u8::MAX))?;
     Ok(number as u8)
 }
 
 /// The number of four bytes that an object has at a key.
-pub(crate) fn word_at(alloc: Global, object: &Value, key: &str) -> Result<u32, Refusal>
-    ensures { Answers (field key.now (number_to most_word) (view object.now)) result }
+pub(crate) fn u32_at(alloc: Global, object: &Value, key: &str) -> Result<u32, Refusal>
+    ensures { Answers (field key.now (number_to most_u32) (view object.now)) result }
 {
     let number = number_at(alloc, object, key, u64::from(u32::MAX))?;
     Ok(number as u32)
 }
 
 /// The number of eight bytes that an object has at a key.
-pub(crate) fn long_at(alloc: Global, object: &Value, key: &str) -> Result<u64, Refusal>
-    ensures { Answers (field key.now (number_to most_long) (view object.now)) result }
+pub(crate) fn u64_at(alloc: Global, object: &Value, key: &str) -> Result<u64, Refusal>
+    ensures { Answers (field key.now (number_to most_u64) (view object.now)) result }
 {
     number_at(alloc, object, key, u64::MAX)
 }
 
 /// The number of eight bytes that an object may have at a key.
-pub(crate) fn optional_long(
-    alloc: Global,
-    object: &Value,
-    key: &str,
-) -> Result<Option<u64>, Refusal>
-    ensures { Answers (optional key.now (number_to most_long) (view object.now)) result }
+pub(crate) fn optional_u64(alloc: Global, object: &Value, key: &str) -> Result<Option<u64>, Refusal>
+    ensures { Answers (optional key.now (number_to most_u64) (view object.now)) result }
 {
     match object.get(key) {
         Some(value) => match value.as_u64() {
@@ -91,12 +81,8 @@ pub(crate) fn optional_long(
 }
 
 /// The number of four bytes that an object may have at a key.
-pub(crate) fn optional_word(
-    alloc: Global,
-    object: &Value,
-    key: &str,
-) -> Result<Option<u32>, Refusal>
-    ensures { Answers (optional key.now (number_to most_word) (view object.now)) result }
+pub(crate) fn optional_u32(alloc: Global, object: &Value, key: &str) -> Result<Option<u32>, Refusal>
+    ensures { Answers (optional key.now (number_to most_u32) (view object.now)) result }
 {
     match object.get(key) {
         Some(value) => match value.as_u64() {
@@ -124,8 +110,7 @@ pub(crate) fn optional_bool(
     }
 }
 
-#[tactic(auto, using(crate::proofs::Names::name_passes, crate::proofs::Names::long_fails,
-    crate::proofs::Names::other_fails))]
+#[tactic(auto, using(crate::proofs::Names::name_passes, crate::proofs::Names::long_fails, crate::proofs::Names::other_fails))]
 /// A name that a text has to be, of at most `most` bytes.
 pub(crate) fn name_of(alloc: Global, field: &str, text: &str, most: u32) -> Result<Name, Refusal>
     ensures { Answers (name_in field.now most text.now) result }
@@ -139,12 +124,7 @@ pub(crate) fn name_of(alloc: Global, field: &str, text: &str, most: u32) -> Resu
 }
 
 /// The name, of at most `most` bytes, that an object has at a key.
-pub(crate) fn name_at(
-    alloc: Global,
-    object: &Value,
-    key: &str,
-    most: u32,
-) -> Result<Name, Refusal>
+pub(crate) fn name_at(alloc: Global, object: &Value, key: &str, most: u32) -> Result<Name, Refusal>
     ensures { Answers (field key.now (name_to most) (view object.now)) result }
 {
     match object.get(key).and_then(Value::as_str) {

@@ -9,10 +9,10 @@ ghost use Rattle.desk_command.specs.Outcomes.{Answers};
 ghost use Rattle.room_command.specs.declared.command.Command.TheVariants.{Abort, Delete, Show};
 
 use crate::body::{
-    byte_at, digest_at, long_at, name_at, object_of, optional_action, optional_bool, optional_long,
-    optional_name, optional_word, word_at,
+    digest_at, name_at, object_of, optional_action, optional_bool, optional_name, optional_u32,
+    optional_u64, u8_at, u32_at, u64_at,
 };
-use crate::part::{byte_part, long_part, name_part, ssid_part};
+use crate::part::{name_part, ssid_part, u8_part, u64_part};
 use room_base::{Cart, Refusal, Ssid};
 use room_command::{Command, ResourceKind};
 use std::alloc::Global;
@@ -32,9 +32,9 @@ pub(crate) fn drop_of(alloc: Global, kind: ResourceKind, name: &str) -> Result<C
 pub(crate) fn load_of(alloc: Global, slot: &str, body: &[u8]) -> Result<Command, Refusal>
     ensures { Answers (load_of slot.now body.now) result }
 {
-    let slot = byte_part(alloc, "slot", slot)?;
+    let slot = u8_part(alloc, "slot", slot)?;
     let object = object_of(alloc, body)?;
-    let cart = word_at(alloc, &object, "cart")?;
+    let cart = u32_at(alloc, &object, "cart")?;
     Ok(Command::Load {
         slot,
         cart: Cart(cart),
@@ -44,7 +44,7 @@ pub(crate) fn load_of(alloc: Global, slot: &str, body: &[u8]) -> Result<Command,
 pub(crate) fn eject_of(alloc: Global, slot: &str) -> Result<Command, Refusal>
     ensures { Answers (eject_of slot.now) result }
 {
-    let slot = byte_part(alloc, "slot", slot)?;
+    let slot = u8_part(alloc, "slot", slot)?;
     Ok(Command::Eject { slot })
 }
 
@@ -52,10 +52,10 @@ pub(crate) fn label_of(alloc: Global, body: &[u8]) -> Result<Command, Refusal>
     ensures { Answers (label_of body.now) result }
 {
     let object = object_of(alloc, body)?;
-    let slot = byte_at(alloc, &object, "slot")?;
+    let slot = u8_at(alloc, &object, "slot")?;
     let pool = name_at(alloc, &object, "pool", MAX_NAME)?;
-    let capacity = word_at(alloc, &object, "capacity")?;
-    let block = optional_word(alloc, &object, "block")?;
+    let capacity = u32_at(alloc, &object, "capacity")?;
+    let block = optional_u32(alloc, &object, "block")?;
     Ok(Command::Label {
         slot,
         pool,
@@ -68,8 +68,8 @@ pub(crate) fn mount_of(alloc: Global, body: &[u8]) -> Result<Command, Refusal>
     ensures { Answers (mount_of body.now) result }
 {
     let object = object_of(alloc, body)?;
-    let slot = byte_at(alloc, &object, "slot")?;
-    let drive = byte_at(alloc, &object, "drive")?;
+    let slot = u8_at(alloc, &object, "slot")?;
+    let drive = u8_at(alloc, &object, "drive")?;
     Ok(Command::Mount { slot, drive })
 }
 
@@ -77,7 +77,7 @@ pub(crate) fn unmount_of(alloc: Global, body: &[u8]) -> Result<Command, Refusal>
     ensures { Answers (unmount_of body.now) result }
 {
     let object = object_of(alloc, body)?;
-    let drive = byte_at(alloc, &object, "drive")?;
+    let drive = u8_at(alloc, &object, "drive")?;
     Ok(Command::Unmount { drive })
 }
 
@@ -105,15 +105,11 @@ pub(crate) fn begin_of(alloc: Global, body: &[u8]) -> Result<Command, Refusal>
 }
 
 /// The save set and the offset of a piece.
-pub(crate) fn append_place(
-    alloc: Global,
-    ssid: &str,
-    offset: &str,
-) -> Result<(Ssid, u64), Refusal>
+pub(crate) fn append_place(alloc: Global, ssid: &str, offset: &str) -> Result<(Ssid, u64), Refusal>
     ensures { Answers (append_place ssid.now offset.now) result }
 {
     let ssid = ssid_part(alloc, ssid)?;
-    let offset = long_part(alloc, "offset", offset)?;
+    let offset = u64_part(alloc, "offset", offset)?;
     Ok((ssid, offset))
 }
 
@@ -122,7 +118,7 @@ pub(crate) fn finish_of(alloc: Global, ssid: &str, body: &[u8]) -> Result<Comman
 {
     let ssid = ssid_part(alloc, ssid)?;
     let object = object_of(alloc, body)?;
-    let length = long_at(alloc, &object, "length")?;
+    let length = u64_at(alloc, &object, "length")?;
     let sha256 = digest_at(alloc, &object, "sha256")?;
     Ok(Command::Finish {
         ssid,
@@ -136,8 +132,8 @@ pub(crate) fn amend_of(alloc: Global, ssid: &str, body: &[u8]) -> Result<Command
 {
     let ssid = ssid_part(alloc, ssid)?;
     let object = object_of(alloc, body)?;
-    let browse = optional_long(alloc, &object, "browse")?;
-    let retain = optional_long(alloc, &object, "retain")?;
+    let browse = optional_u64(alloc, &object, "browse")?;
+    let retain = optional_u64(alloc, &object, "retain")?;
     let hold = optional_bool(alloc, &object, "hold")?;
     Ok(Command::Amend {
         ssid,

@@ -5,8 +5,13 @@
 mod asking;
 mod body;
 mod commands;
+mod laws;
 mod part;
 mod refusing;
 mod route;
 
 pub use asking::command_of;
+pub use laws::{commands_are_one, names_are_tested};
+
+#[cfg(test)]
+mod tests;

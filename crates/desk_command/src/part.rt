@@ -3,7 +3,7 @@
 ghost use Rattle.std.specs.Prelude.{◌≡◌};
 ghost use Rattle.std.specs.Char.{is_ascii_digit};
 ghost use Rattle.std.specs.List.{list_all};
-ghost use Rattle.desk_command.specs.Fields.{decimal_of, most_byte, most_long, name_part, number_part};
+ghost use Rattle.desk_command.specs.Fields.{decimal_of, most_u8, most_u64, name_part, number_part};
 ghost use Rattle.desk_command.specs.Commands.{ssid_part};
 ghost use Rattle.desk_command.specs.Outcomes.{Answers};
 
@@ -45,16 +45,16 @@ fn number_part(alloc: Global, name: &str, part: &str, most: u64) -> Result<u64, 
 }
 
 /// The number of one byte that a part has to be.
-pub(crate) fn byte_part(alloc: Global, name: &str, part: &str) -> Result<u8, Refusal>
-    ensures { Answers (number_part name.now most_byte part.now) result }
+pub(crate) fn u8_part(alloc: Global, name: &str, part: &str) -> Result<u8, Refusal>
+    ensures { Answers (number_part name.now most_u8 part.now) result }
 {
     let number = number_part(alloc, name, part, u64::from(u8::MAX))?;
     Ok(number as u8)
 }
 
 /// The number of eight bytes that a part has to be.
-pub(crate) fn long_part(alloc: Global, name: &str, part: &str) -> Result<u64, Refusal>
-    ensures { Answers (number_part name.now most_long part.now) result }
+pub(crate) fn u64_part(alloc: Global, name: &str, part: &str) -> Result<u64, Refusal>
+    ensures { Answers (number_part name.now most_u64 part.now) result }
 {
     number_part(alloc, name, part, u64::MAX)
 }
@@ -63,7 +63,7 @@ pub(crate) fn long_part(alloc: Global, name: &str, part: &str) -> Result<u64, Re
 pub(crate) fn ssid_part(alloc: Global, part: &str) -> Result<Ssid, Refusal>
     ensures { Answers (ssid_part part.now) result }
 {
-    Ok(Ssid(long_part(alloc, "ssid", part)?))
+    Ok(Ssid(u64_part(alloc, "ssid", part)?))
 }
 
 /// The name that a part has to be.

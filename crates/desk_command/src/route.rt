@@ -134,12 +134,7 @@ fn route_of_part<'a>(method: &str, place: &str, part: &'a str) -> Option<Route<'
     }
 }
 
-fn route_of_set<'a>(
-    method: &str,
-    place: &str,
-    part: &'a str,
-    word: &'a str,
-) -> Option<Route<'a>>
+fn route_of_set<'a>(method: &str, place: &str, part: &'a str, word: &'a str) -> Option<Route<'a>>
     ensures found { option_map seen result
         ≡ line_of_set method.now place.now part.now word.now }
     ensures is { IfSome result
