@@ -2,6 +2,8 @@ pub mod Answering
 pub mod Decimals
 pub mod Names
 pub mod Objects
+pub mod Placing
 pub mod Seeking
+pub mod Shapes
 pub mod Tables
 pub mod Targets

@@ -3,3 +3,4 @@ pub mod Lines
 pub mod Outcomes
 pub mod Fields
 pub mod Commands
+pub mod Places

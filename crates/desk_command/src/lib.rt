@@ -7,10 +7,12 @@ mod body;
 mod commands;
 mod laws;
 mod part;
+mod place;
 mod refusing;
 mod route;
 
 pub use asking::command_of;
+pub use place::Routes;
 pub use laws::{commands_are_one, names_are_tested};
 
 #[cfg(test)]
