@@ -1,5 +1,6 @@
 pub mod Answering
 pub mod Decimals
+pub mod Leading
 pub mod Names
 pub mod Objects
 pub mod Placing
@@ -7,3 +8,4 @@ pub mod Seeking
 pub mod Shapes
 pub mod Tables
 pub mod Targets
+pub mod Walking

@@ -1,5 +1,6 @@
 use Rattle.desk_command.proofs.Answering.{one_outcome, one_route}
-use Rattle.desk_command.proofs.Shapes.{shape_fits}
+use Rattle.desk_command.proofs.Walking.{walked}
+use Rattle.desk_command.proofs.Leading.{leads, no_place}
 use Rattle.desk_command.proofs.laws.commands_are_one.Goals as goal
 
 pub returns : goal.returns
