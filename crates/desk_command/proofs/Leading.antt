@@ -50,7 +50,7 @@ all_there places.Abort = inr (inr (inr (inr (inr (inr (inr (inl refl)))))))
 all_there places.Amend = inr (inr (inr (inr (inr (inr (inr (inr (inl refl))))))))
 all_there places.Nsrim = inr (inr (inr (inl refl)))
 
-all_shapes : (place : Place) → is_shape (shape_of place) ≡ true
+pub all_shapes : (place : Place) → is_shape (shape_of place) ≡ true
 all_shapes places.Resources = refl
 all_shapes places.Resource = refl
 all_shapes places.Slot = refl

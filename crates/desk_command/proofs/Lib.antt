@@ -3,6 +3,7 @@ pub mod Decimals
 pub mod Leading
 pub mod Names
 pub mod Objects
+pub mod Parted
 pub mod Placing
 pub mod Seeking
 pub mod Shapes
