@@ -4,6 +4,7 @@ pub mod Leading
 pub mod Names
 pub mod Objects
 pub mod Parted
+pub mod Placed
 pub mod Placing
 pub mod Seeking
 pub mod Shapes

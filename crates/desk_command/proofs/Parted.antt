@@ -129,25 +129,6 @@ walk_place place parts m =
     walk_is (shape_of place) parts (pattern_of (shape_of place)) (text_of place) (target_of parts) (names_of place) 0 0 (all_shapes place) m
     (all_counts place) (all_small place) refl (zero_on (length (pattern_of (shape_of place)))) refl (zero_on (length (target_of parts)))
 
-walk_text : (place : Place) (parts : List (List ℕ)) → IsUtf8 (target_of parts) → AllText (walked_of place parts)
+pub walk_text : (place : Place) (parts : List (List ℕ)) → IsUtf8 (target_of parts) → AllText (walked_of place parts)
 walk_text place parts text =
     walked_text (text_of place) (names_of place) (taken (shape_of place) parts) (names_text place) (taken_text (shape_of place) parts (parts_text parts text))
-
--- the text of a parameter that was found by its name, or of one that wasn't
-abbrev pub or_empty : Option (List ℕ) → List ℕ
-or_empty None = []
-or_empty (Some part) = part
-
-abbrev Got : List ℕ → List (List ℕ × List ℕ) → Option (Bor (List ℕ)) → Type 0
-Got key all got = AllText all → MatchOption got (named key all ≡ None) (λ part. named key all ≡ Some part.now)
-
-got_named : (key : List ℕ) (all : List (List ℕ × List ℕ)) (got : Option (Bor (List ℕ))) → AllText all → Got key all got
-    → named key all ≡ option_map (λ part. part.now) got
-got_named key all None text is = is text
-got_named key all (Some part) text is = is text
-
-pub got_of : (place : Place) (parts : List (List ℕ)) (key : List ℕ) (got : Option (Bor (List ℕ))) → Matches (shape_of place) parts → IsUtf8 (target_of parts)
-    → Got key (walk_of place (target_of parts)) got → named key (walked_of place parts) ≡ option_map (λ part. part.now) got
-got_of place parts key got m text is =
-    got_named key (walked_of place parts) got (walk_text place parts text)
-    (subst (λ (all : List (List ℕ × List ℕ)). Got key all got) (walk_place place parts m) is)

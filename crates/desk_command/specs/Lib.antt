@@ -4,3 +4,4 @@ pub mod Outcomes
 pub mod Fields
 pub mod Commands
 pub mod Places
+pub mod Targets

@@ -10,6 +10,7 @@ mod part;
 mod place;
 mod refusing;
 mod route;
+mod target;
 
 pub use asking::command_of;
 pub use place::Routes;
