@@ -1,5 +1,5 @@
 -- What a request comes to, by the route that was found.
-use Rattle.std.proofs.Common.{◌≡◌, ◌⊎◌, inl, inr, List, [], ◌∷◌, ℕ, Ok, Err, ap, refl, sym, ◌∙◌}
+use Rattle.std.proofs.Common.{◌≡◌, ◌⊎◌, inl, inr, List, ℕ, Ok, Err, ap, refl, sym, ◌∙◌}
 use Rattle.room_base.specs.declared.refusal.Refusal.{Refusal}
 use Rattle.room_base.specs.declared.refusal.Refusal.TheVariants.{NoMemory}
 use Rattle.room_command.specs.declared.command.Command.{Command}
@@ -8,7 +8,7 @@ use Rattle.desk_command.specs.Commands.{AnswersRequest, CommandOf, command_by, n
 use Rattle.desk_command.specs.Outcomes.{Answers, Outcome}
 use Rattle.desk_command.specs.Routes.{HasRoute, Route, parts_of}
 use Rattle.desk_command.proofs.Tables.{one_line}
-use Rattle.desk_command.proofs.Targets.{split_of_route}
+use Rattle.desk_command.proofs.Targets.{made_of_route, one_making}
 
 pub asked : (request : RequestText) (route : Route) (result : Outcome Command) → HasRoute request.method request.target route
     → Answers (command_by route request.body) result → AnswersRequest request result
@@ -23,9 +23,8 @@ not_asked request refusal none (inr memory) = inr (ap Err memory)
 pub one_route : (request : RequestText) (route other : Route) → HasRoute request.method request.target route
     → HasRoute request.method request.target other → route ≡ other
 one_route request route other first second =
-    let same : [] ∷ parts_of route ≡ [] ∷ parts_of other =
-    sym (split_of_route request.method request.target route first) ∙ split_of_route request.method request.target other second in
-    let parts_are : parts_of route ≡ parts_of other = cc in
+    let parts_are = one_making request.target (parts_of route) (parts_of other)
+    (made_of_route request.method request.target route first) (made_of_route request.method request.target other second) in
     one_line request.method (parts_of route) route other (first.method_is, refl) (second.method_is, parts_are)
 
 pub one_outcome : (request : RequestText) (one other : Outcome Command) → CommandOf request one → CommandOf request other → one ≡ other

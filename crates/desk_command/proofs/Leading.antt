@@ -83,8 +83,7 @@ pub leads : (target : List ℕ) (found : RouteOf Place) → AreBytes target → 
 leads target found bytes is =
     let row = in_rows all_places target found (found_fits (length target) all_rows target found (omega arith) all_whole bytes is) in
     let value : row.0 ≡ found.value = ap (λ r. r.value) row.2 in
-    let parts = shape_fits (shape_of row.0) target (all_shapes row.0) row.1 in
-    (
+    let parts = shape_fits (shape_of row.0) target (all_shapes row.0) row.1 in (
       subst (λ (p : Place). LeadsTo target p) value (record { parts = parts.0; matches = parts.1; is = parts.2 }),
       sym row.2 ∙ ap route_of value,
     )

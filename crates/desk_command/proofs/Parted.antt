@@ -37,8 +37,7 @@ behind part parts text =
 parts_text : (parts : List (List ℕ)) → IsUtf8 (target_of parts) → AllUtf8 parts
 parts_text [] text = tt
 parts_text (part ∷ parts) text =
-    let whole = behind part parts text in
-    (
+    let whole = behind part parts text in (
       subst IsUtf8 (take-append_seam part (target_of parts)) (IsUtf8-take (part ++ target_of parts) (length part) whole (seam part parts)),
       parts_text parts (subst IsUtf8 (drop-append_seam part (target_of parts)) (IsUtf8-drop (part ++ target_of parts) (length part) whole (seam part parts))),
     )

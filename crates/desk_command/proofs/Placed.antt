@@ -1,14 +1,19 @@
 -- The parts of a target, by the parameters of its place.
-use Rattle.std.proofs.Common.{◌≡◌, ℕ, List, [], ◌∷◌, codes, refl, sym, ap, ◌∙◌, subst, true, ◌&&◌, ltb}
+use Rattle.std.proofs.Common.{◌≡◌, ℕ, List, [], ◌∷◌, codes, refl, sym, ap, ◌∙◌, subst, true, ◌&&◌, ltb, ◌<◌, suc, get_or, Fits, w8, Some, arith}
 use Rattle.std.specs.List.{list_all}
 use Rattle.std.proofs.lemmas.Bool.{and_parts, and_from}
+use Rattle.std.specs.Str.{IsUtf8}
+use Rattle.matchit.specs.Router.{RouteOf}
+use Rattle.matchit.specs.Seek.{first}
 use Rattle.matchit.specs.Params.{AllText, named, walk}
 use Rattle.matchit.specs.declared.params.Params.{Params}
-use Rattle.desk_command.specs.Places.{Any, Matches, Piece, Word, names_of, pattern_of, shape_of, text_of}
+use Rattle.desk_command.specs.Places.{all_rows, Any, Matches, Piece, Word, names_of, pattern_of, shape_of, text_of}
 use Rattle.desk_command.specs.Routes.{is_part, target_of}
-use Rattle.desk_command.specs.Targets.{IsAt, or_empty}
+use Rattle.desk_command.specs.Targets.{IsAt, IsMadeOf, or_empty}
 use Rattle.desk_command.specs.declared.place.Place.{Place}
 use Rattle.desk_command.specs.declared.place.Place.TheVariants as places
+use Rattle.desk_command.proofs.Leading.{all_shapes, leads}
+use Rattle.desk_command.proofs.Seeking.{AreBytes}
 use Rattle.desk_command.proofs.Parted.{walk_place, walk_text, walked_of}
 use Rattle.desk_command.proofs.Shapes.{is_shape, is_word}
 
@@ -98,3 +103,33 @@ body_is (a ∷ b ∷ []) got other m is too = absurd m.1.1
 body_is (a ∷ b ∷ d ∷ []) got other m is too = absurd m.1.1.1
 body_is (a ∷ b ∷ d ∷ e ∷ []) got other m is too = rw (m.0, m.1.1.0, is, too) refl
 body_is (a ∷ b ∷ d ∷ e ∷ f ∷ more) got other m is too = absurd m.1.1.1.1
+
+are_bytes : (text : List ℕ) → ((i : ℕ) → Fits w8 (get_or text i 0)) → AreBytes text
+are_bytes [] h = tt
+are_bytes (b ∷ text) h = (omega (arith, h 0), are_bytes text (λ i. h (suc i)))
+
+-- the parts that a target was taken apart into
+pub made_of : (place : Place) (params : Params) (target : List ℕ) (found : List (List ℕ)) → IsUtf8 target → ((i : ℕ) → Fits w8 (get_or target i 0))
+    → first all_rows target ≡ Some (record {
+      pattern = params.pattern.now;
+      text = params.text.now;
+      names = params.names.now;
+      value = place;
+    }) → params.path.now ≡ target → ((parts : List (List ℕ)) → IsAt place parts params → found ≡ parts) → IsMadeOf target found
+made_of place params target found text bytes is path taken =
+    let row : RouteOf Place = record { pattern = params.pattern.now; text = params.text.now; names = params.names.now; value = place } in
+    let led = leads target row (are_bytes target bytes) is in
+    let at : IsAt place led.0.parts params = record {
+      pattern_is = ap (λ r. r.pattern) led.1;
+      text_is = ap (λ r. r.text) led.1;
+      names_are = ap (λ r. r.names) led.1;
+      path_is = path ∙ led.0.is;
+      matches = led.0.matches;
+      utf8 = subst IsUtf8 led.0.is text;
+    } in
+    let same = taken led.0.parts at in
+    record {
+      is = led.0.is ∙ ap target_of (sym same);
+      are_parts = subst (λ (p : List (List ℕ)). list_all is_part p ≡ true) (sym same)
+          (shape_parts (shape_of place) led.0.parts (all_shapes place) led.0.matches);
+    }

@@ -117,8 +117,7 @@ shape_fits (Word word ∷ shape) (b ∷ path) is h =
     let bytes = and_parts (is_part word) (list_all (λ byte. ltb byte 256) word) good.0 in
     let first = and_parts (47 == b) (fits (word ++ pattern_of shape) path) h in
     let w = word_fits word (pattern_of shape) path bytes.1 first.1 in
-    let more = shape_fits shape w.0 good.1 w.2 in
-    (
+    let more = shape_fits shape w.0 good.1 w.2 in (
       word ∷ more.0,
       (refl, more.1),
       cons_same 47 b path (word ++ target_of more.0) (same 47 b first.0) (w.1 ∙ ap (λ left. word ++ left) more.2),
@@ -127,8 +126,7 @@ shape_fits (Any ∷ shape) [] is h = cc
 shape_fits (Any ∷ shape) (b ∷ path) is h =
     let first = and_parts (47 == b) (fits (256 ∷ pattern_of shape) path) h in
     let w = part_fits (pattern_of shape) path first.1 in
-    let more = shape_fits shape w.1 is w.4 in
-    (
+    let more = shape_fits shape w.1 is w.4 in (
       w.0 ∷ more.0,
       (w.2, more.1),
       cons_same 47 b path (w.0 ++ target_of more.0) (same 47 b first.0) (w.3 ∙ ap (λ left. w.0 ++ left) more.2),

@@ -1,5 +1,5 @@
 -- The line of the table that has a method and parts of a target, found by comparing texts.
-use Rattle.std.specs.Prelude.{ℕ, Bool, nat_eq, nat_lt, length, if◌then◌else◌, ◌&&◌, List, [], ◌∷◌, codes, Option, Some, None, option_map}
+use Rattle.std.specs.Prelude.{ℕ, Bool, nat_eq, if◌then◌else◌, ◌&&◌, List, [], ◌∷◌, codes, Option, Some, None, option_map}
 use Rattle.std.specs.Cmp.Lexicographic.{pointwise}
 use Rattle.catalog_change.specs.declared.resource.ResourceKind.{ResourceKind}
 use Rattle.catalog_change.specs.declared.resource.ResourceKind.TheVariants as kinds
@@ -9,9 +9,6 @@ use Rattle.desk_command.specs.Routes.{Delete, Nsrim, Show, HasRoute}
 
 abbrev pub is : List ℕ → List ℕ → Bool
 is text word = pointwise nat_eq text word
-
-abbrev pub has_byte : List ℕ → Bool
-has_byte part = nat_lt 0 (length part)
 
 abbrev pub kind_of : List ℕ → Option ResourceKind
 kind_of word =
@@ -85,7 +82,7 @@ line_at method (place ∷ part ∷ word ∷ []) = line_of_set method place part 
 line_at method (place ∷ part ∷ word ∷ last ∷ []) = line_of_body method place part word last
 line_at method (place ∷ part ∷ word ∷ last ∷ more ∷ others) = None
 
--- the line that a target has which is split into these
+-- what is found of a request's route
 abbrev pub Finds : List ℕ → List ℕ → Option Route → Type 0
 Finds method target None = (route : Route) → ¬ (HasRoute method target route)
 Finds method target (Some route) = HasRoute method target route

@@ -8,6 +8,7 @@ use crate::commands::{
     abort_of, amend_of, append_place, begin_of, delete_of, drop_of, eject_of, finish_of, label_of,
     load_of, mount_of, savegrp_of, show_of, unmount_of,
 };
+use crate::place::Routes;
 use crate::route::{Route, route_of};
 use desk_request::Request;
 use room_base::{Items, Memory, Name, NameFault, Refusal};
@@ -20,13 +21,11 @@ const MAX_TARGET: u32 = 8_192;
 #[tactic(auto, using(crate::proofs::Answering::asked, crate::proofs::Answering::not_asked))]
 /// The command that a request asks for. Its body is moved, not copied, into a command that takes it
 /// as it is.
-pub fn command_of(alloc: Global, request: Request) -> Result<Command, Refusal>
+pub fn command_of(alloc: Global, routes: &Routes, request: Request) -> Result<Command, Refusal>
     ensures { AnswersRequest request result }
 {
-    let route = match route_of(alloc, request.method(), request.target()) {
-        Ok(Some(route)) => route,
-        Ok(None) => return Err(no_route(alloc, request.target())),
-        Err(_) => return Err(Refusal::NoMemory),
+    let Some(route) = route_of(routes, request.method(), request.target()) else {
+        return Err(no_route(alloc, request.target()));
     };
     match route {
         Route::Define => Ok(Command::Define {

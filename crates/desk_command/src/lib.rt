@@ -13,8 +13,8 @@ mod route;
 mod target;
 
 pub use asking::command_of;
-pub use place::Routes;
 pub use laws::{commands_are_one, names_are_tested};
+pub use place::Routes;
 
 #[cfg(test)]
 mod tests;

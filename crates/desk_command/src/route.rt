@@ -1,12 +1,13 @@
-ghost use Rattle.std.specs.Prelude.{◌≡◌, [], ◌∷◌, map, option_map, IfSome, IfOk};
-ghost use Rattle.std.specs.List.{list_all, slice_split};
-ghost use Rattle.desk_command.specs.Lines.{Finds, has_byte, kind_of, line_at, line_of_body, line_of_part};
-ghost use Rattle.desk_command.specs.Lines.{line_of_set, line_of_word};
-ghost use Rattle.desk_command.specs.Routes.{IsOf, is_slash, kind_word, seen};
+//! The table of routes: which method and which target ask for which command.
 
+ghost use Rattle.std.specs.Prelude.{◌≡◌, ◌≢◌, option_map, IfSome, MatchOption};
+ghost use Rattle.desk_command.specs.Lines.{Finds, kind_of, line_at};
+ghost use Rattle.desk_command.specs.Routes.{IsOf, kind_word, seen};
+ghost use Rattle.desk_command.specs.Targets.{parts_in};
+
+use crate::place::Routes;
+use crate::target::{Target, target_of};
 use catalog_change::ResourceKind;
-use room_base::Memory;
-use std::alloc::{AllocError, Global};
 
 /// A line of the table of routes, with the parts of the target that it takes.
 #[derive(Clone, Copy, Debug)]
@@ -31,157 +32,56 @@ pub(crate) enum Route<'a> {
 }
 
 /// The route that a request has, by its method and its target.
-pub(crate) fn route_of<'a>(
-    alloc: Global,
-    method: &str,
-    target: &'a str,
-) -> Result<Option<Route<'a>>, Memory>
-    ensures { IfOk result (λ found. Finds method.now target.now (option_map seen found)) }
-{
-    let parts = split_of(alloc, target)?;
-    Ok(route_in(method, target, parts.as_slice()))
-}
-
-// The texts between the slashes of a target.
-fn split_of<'a>(alloc: Global, target: &'a str) -> Result<Vec<&'a str>, AllocError>
-    ensures { IfOk result (λ parts. map (λ part. part.now) parts.items
-        ≡ slice_split is_slash target.now) }
-{
-    target.split('/').collect(alloc)
-}
-
-// The route of a target that is split into these texts.
-fn route_in<'a>(method: &str, target: &str, split: &[&'a str]) -> Option<Route<'a>>
-    requires { map (λ part. part.now) split.now ≡ slice_split is_slash target.now }
+pub(crate) fn route_of<'a>(routes: &Routes, method: &str, target: &'a str) -> Option<Route<'a>>
     ensures { Finds method.now target.now (option_map seen result) }
 {
-    let Some((first, parts)) = split.split_first() else {
-        return None;
-    };
-    if !first.is_empty() {
-        return None;
-    }
-    if !have_bytes(parts) {
-        return None;
-    }
-    route_at(method, parts)
-}
-
-fn have_bytes(parts: &[&str]) -> bool
-    ensures { result ≡ list_all (λ part. has_byte part.now) parts.now }
-{
-    parts.iter().all(|part| !part.is_empty())
-}
-
-// The route that has a method and these parts of a target.
-fn route_at<'a>(method: &str, parts: &[&'a str]) -> Option<Route<'a>>
-    ensures found { option_map seen result ≡ line_at method.now (map (λ part. part.now) parts.now) }
-    ensures is { IfSome result
-        (λ route. IsOf method.now (map (λ part. part.now) parts.now) (seen route)) }
-{
-    match parts {
-        [word] => route_of_word(method, word),
-        [place, part] => route_of_part(method, place, part),
-        [place, part, word] => route_of_set(method, place, part, word),
-        [place, part, word, last] => route_of_body(method, place, part, word, last),
-        _ => None,
+    match target_of(routes, target) {
+        Some(found) => route_by(method, found),
+        None => None,
     }
 }
 
-fn route_of_word<'a>(method: &str, word: &str) -> Option<Route<'a>>
-    ensures found { option_map seen result ≡ line_of_word method.now word.now }
-    ensures is { IfSome result (λ route. IsOf method.now (word.now ∷ []) (seen route)) }
+// The route of a method and a target.
+fn route_by<'a>(method: &str, target: Target<'a>) -> Option<Route<'a>>
+    ensures found { option_map seen result ≡ line_at method.now (parts_in target.entry) }
+    ensures is { IfSome result (λ route. IsOf method.now (parts_in target.entry) (seen route)) }
 {
-    match method {
-        "POST" => match word {
-            "resources" => Some(Route::Define),
-            "label" => Some(Route::Label),
-            "mount" => Some(Route::Mount),
-            "unmount" => Some(Route::Unmount),
-            "sets" => Some(Route::Begin),
-            "nsrim" => Some(Route::Nsrim),
+    match target {
+        Target::Resources => only("POST", method, Route::Define),
+        Target::Resource { kind, name } => match kind_of(kind) {
+            Some(kind) => only("DELETE", method, Route::Drop { kind, name }),
+            None => None,
+        },
+        Target::Slot { slot } => match method {
+            "POST" => Some(Route::Load { slot }),
+            "DELETE" => Some(Route::Eject { slot }),
             _ => None,
         },
-        "GET" => match word {
-            "inventory" => Some(Route::Inventory),
+        Target::Label => only("POST", method, Route::Label),
+        Target::Mount => only("POST", method, Route::Mount),
+        Target::Unmount => only("POST", method, Route::Unmount),
+        Target::Inventory => only("GET", method, Route::Inventory),
+        Target::Savegrp { group } => only("GET", method, Route::Savegrp { group }),
+        Target::Sets => only("POST", method, Route::Begin),
+        Target::Set { ssid } => match method {
+            "GET" => Some(Route::Show { ssid }),
+            "DELETE" => Some(Route::Delete { ssid }),
             _ => None,
         },
-        _ => None,
+        Target::Body { ssid, offset } => only("PUT", method, Route::Append { ssid, offset }),
+        Target::Finish { ssid } => only("POST", method, Route::Finish { ssid }),
+        Target::Abort { ssid } => only("POST", method, Route::Abort { ssid }),
+        Target::Amend { ssid } => only("POST", method, Route::Amend { ssid }),
+        Target::Nsrim => only("POST", method, Route::Nsrim),
     }
 }
 
-fn route_of_part<'a>(method: &str, place: &str, part: &'a str) -> Option<Route<'a>>
-    ensures found { option_map seen result ≡ line_of_part method.now place.now part.now }
-    ensures is { IfSome result
-        (λ route. IsOf method.now (place.now ∷ part.now ∷ []) (seen route)) }
+// The only route of a target, whose method is `wanted`.
+fn only<'a>(wanted: &str, method: &str, route: Route<'a>) -> Option<Route<'a>>
+    ensures { MatchOption result (method.now ≢ wanted.now)
+        (λ found. (method.now ≡ wanted.now) × (seen found ≡ seen route.entry)) }
 {
-    match method {
-        "POST" => match place {
-            "slots" => Some(Route::Load { slot: part }),
-            _ => None,
-        },
-        "GET" => match place {
-            "savegrp" => Some(Route::Savegrp { group: part }),
-            "sets" => Some(Route::Show { ssid: part }),
-            _ => None,
-        },
-        "DELETE" => match place {
-            "slots" => Some(Route::Eject { slot: part }),
-            "sets" => Some(Route::Delete { ssid: part }),
-            _ => None,
-        },
-        _ => None,
-    }
-}
-
-fn route_of_set<'a>(method: &str, place: &str, part: &'a str, word: &'a str) -> Option<Route<'a>>
-    ensures found { option_map seen result
-        ≡ line_of_set method.now place.now part.now word.now }
-    ensures is { IfSome result
-        (λ route. IsOf method.now (place.now ∷ part.now ∷ word.now ∷ []) (seen route)) }
-{
-    match method {
-        "POST" => match place {
-            "sets" => match word {
-                "finish" => Some(Route::Finish { ssid: part }),
-                "abort" => Some(Route::Abort { ssid: part }),
-                "amend" => Some(Route::Amend { ssid: part }),
-                _ => None,
-            },
-            _ => None,
-        },
-        "DELETE" => match place {
-            "resources" => match kind_of(part) {
-                Some(kind) => Some(Route::Drop { kind, name: word }),
-                None => None,
-            },
-            _ => None,
-        },
-        _ => None,
-    }
-}
-
-fn route_of_body<'a>(
-    method: &str,
-    place: &str,
-    part: &'a str,
-    word: &str,
-    last: &'a str,
-) -> Option<Route<'a>>
-    ensures found { option_map seen result
-        ≡ line_of_body method.now place.now part.now word.now last.now }
-    ensures is { IfSome result
-        (λ route. IsOf method.now
-        (place.now ∷ part.now ∷ word.now ∷ last.now ∷ []) (seen route)) }
-{
-    if method == "PUT" && place == "sets" && word == "body" {
-        Some(Route::Append {
-            ssid: part,
-            offset: last,
-        })
-    } else {
-        None
-    }
+    if method == wanted { Some(route) } else { None }
 }
 
 fn kind_of(word: &str) -> Option<ResourceKind>

@@ -135,7 +135,10 @@ fn said_of(alloc: Global, method: &str, target: &str, body: &[u8]) -> Result<Str
         return Err(Fail::new("a longer body"));
     }
     let request = Request::new(method, target, false, body.to_vec(alloc)?, 0);
-    match command_of(alloc, request) {
+    let Ok(routes) = Routes::new(alloc) else {
+        return Err(Fail::new("out of memory"));
+    };
+    match command_of(alloc, &routes, request) {
         Ok(command) => device_said(alloc, &command),
         Err(refusal) => refusal_said(alloc, &refusal),
     }

@@ -1,6 +1,4 @@
 use Rattle.desk_command.proofs.Answering.{one_outcome, one_route}
-use Rattle.desk_command.proofs.Parted.{walked_of}
-use Rattle.desk_command.proofs.Leading.{leads, no_place}
 use Rattle.desk_command.proofs.laws.commands_are_one.Goals as goal
 
 pub returns : goal.returns

@@ -1,5 +1,8 @@
-use Rattle.std.proofs.Common.{ap, sym, ◌∙◌}
+use Rattle.desk_command.specs.Targets.{parts_in}
+use Rattle.desk_command.proofs.Placed.{made_of}
 use Rattle.desk_command.proofs.target.target_of.Goals as goal
 
 pub returns-in-Ok : goal.returns-in-Ok
-returns-in-Ok c = let a = c.in-Ok.ensures.found in let b = c.in-Ok.ensures.path in let d = c.target_at.ensures in let e = c.utf8.target in let f = c.type_inv.target in ?
+returns-in-Ok c =
+    made_of c.in-Ok.found.value.now c.in-Ok.found.params c.args.target.now (parts_in c.target_at.result) c.utf8.target c.type_inv.target
+    c.in-Ok.ensures.found c.in-Ok.ensures.path c.target_at.ensures
