@@ -6,7 +6,7 @@ use Rattle.catalog_change.specs.declared.resource.ResourceKind.{ResourceKind}
 use Rattle.catalog_change.specs.declared.resource.ResourceKind.TheVariants as kinds
 use Rattle.matchit.specs.Router.{RouteOf}
 use Rattle.matchit.specs.Seek.{first}
-use Rattle.desk_command.specs.Places.{Matches, all_places, all_rows, pattern_of, route_of, row_of, shape_of}
+use Rattle.desk_command.specs.Places.{Matches, all_places, all_rows, pattern_of, entry_of, row_of, shape_of}
 use Rattle.desk_command.specs.Routes.{HasRoute, Route, is_part, parts_of, target_of}
 use Rattle.desk_command.specs.Routes.{Define, Drop, Load, Eject, Label, Mount, Unmount}
 use Rattle.desk_command.specs.Routes.{Inventory, Savegrp, Begin, Append, Finish, Abort, Amend}
@@ -21,16 +21,16 @@ Member place [] = ⊥
 Member place (one ∷ others) = (place ≡ one) ⊎ Member place others
 
 in_rows : (all : List Place) (path : List ℕ) (found : RouteOf Place) → FitsIn (map row_of all) path found
-    → (place : Place) × (fits (pattern_of (shape_of place)) path ≡ true) × (route_of place ≡ found)
+    → (place : Place) × (fits (pattern_of (shape_of place)) path ≡ true) × (entry_of place ≡ found)
 in_rows [] path found h = absurd h
 in_rows (place ∷ all) path found (inl h) = (place, h.0, h.1)
 in_rows (place ∷ all) path found (inr h) = in_rows all path found h
 
 rows_in : (all : List Place) (path : List ℕ) (place : Place) → Member place all → fits (pattern_of (shape_of place)) path ≡ true
-    → FitsIn (map row_of all) path (route_of place)
+    → FitsIn (map row_of all) path (entry_of place)
 rows_in [] path place there h = absurd there
 rows_in (one ∷ all) path place (inl is) h =
-    inl (subst (λ (p : Place). fits (pattern_of (shape_of p)) path ≡ true) is h, sym (ap route_of is))
+    inl (subst (λ (p : Place). fits (pattern_of (shape_of p)) path ≡ true) is h, sym (ap entry_of is))
 rows_in (one ∷ all) path place (inr there) h = inr (rows_in all path place there h)
 
 all_there : (place : Place) → Member place all_places
@@ -79,18 +79,18 @@ pub record LeadsTo (target : List ℕ) (place : Place) : Type 0 where
   pub is : target ≡ target_of parts
 
 pub leads : (target : List ℕ) (found : RouteOf Place) → AreBytes target → first all_rows target ≡ Some found
-    → LeadsTo target found.value × (found ≡ route_of found.value)
+    → LeadsTo target found.value × (found ≡ entry_of found.value)
 leads target found bytes is =
     let row = in_rows all_places target found (found_fits (length target) all_rows target found (omega arith) all_whole bytes is) in
     let value : row.0 ≡ found.value = ap (λ r. r.value) row.2 in
     let parts = shape_fits (shape_of row.0) target (all_shapes row.0) row.1 in (
       subst (λ (p : Place). LeadsTo target p) value (record { parts = parts.0; matches = parts.1; is = parts.2 }),
-      sym row.2 ∙ ap route_of value,
+      sym row.2 ∙ ap entry_of value,
     )
 
 leads_none : (target : List ℕ) → first all_rows target ≡ None → (place : Place) → LeadsTo target place → ⊥
 leads_none target none place leads =
-    fits_found (length target) all_rows target (route_of place) (omega arith) all_whole
+    fits_found (length target) all_rows target (entry_of place) (omega arith) all_whole
     (rows_in all_places target place (all_there place)
     (rw leads.is (fits_shape (shape_of place) leads.parts (all_shapes place) leads.matches))) none
 

@@ -1,13 +1,14 @@
 pub mod Answering
 pub mod Decimals
+pub mod Inserting
 pub mod Leading
 pub mod Names
 pub mod Objects
-pub mod Parted
-pub mod Placed
-pub mod Placing
+pub mod Parameters
 pub mod Seeking
 pub mod Shapes
 pub mod Tables
+pub mod Taking
 pub mod Targets
+pub mod Truths
 pub mod Walking

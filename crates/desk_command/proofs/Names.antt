@@ -10,6 +10,7 @@ use Rattle.std.proofs.lemmas.List.Sums.{AllPass-from_list_all, list_all-from_All
 use Rattle.std.proofs.lemmas.Str.{IsUtf8-from_is_utf8, is_utf8-from_IsUtf8}
 use Rattle.room_base.specs.Text.{HasLength, IsName, IsPrintable}
 use Rattle.desk_command.specs.Fields.{is_name_to, is_printable}
+use Rattle.desk_command.proofs.Truths.{refuted}
 
 printable : (byte : ℕ) → IsPrintable byte → is_printable byte ≡ true
 printable byte is = grind (arith, nat_tests)
@@ -47,15 +48,11 @@ is_name most text passes =
     let front = and_parts (is_sized most text) (is_utf8 text) all.0 in
     (sized most text front.0, (IsUtf8-from_is_utf8 text front.1, all_are text all.1))
 
-not_true : (b : Bool) → (b ≡ true → ⊥) → b ≡ false
-not_true true none = absurd (none refl)
-not_true false none = refl
-
 pub long_fails : (most : ℕ) (text : List ℕ) → ¬ (HasLength most text) → is_name_to most text ≡ false
-long_fails most text not_sized = not_true (is_name_to most text) (λ passes. not_sized (is_name most text passes).0)
+long_fails most text not_sized = refuted (is_name_to most text) (λ passes. not_sized (is_name most text passes).0)
 
 pub other_fails : (most : ℕ) (text : List ℕ) → ¬ (IsName text) → is_name_to most text ≡ false
-other_fails most text not_name = not_true (is_name_to most text) (λ passes. not_name (is_name most text passes).1)
+other_fails most text not_name = refuted (is_name_to most text) (λ passes. not_name (is_name most text passes).1)
 
 pub tests_name : (most : ℕ) (text : List ℕ) → IsTrue (is_name_to most text) ↔ (HasLength most text × IsName text)
 tests_name most text = (is_name most text, λ named. name_passes most text named.0 named.1)

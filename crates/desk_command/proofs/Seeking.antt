@@ -6,6 +6,7 @@ use Rattle.std.specs.Cmp.Lexicographic.{pointwise}
 use Rattle.matchit.specs.Rows.{RowsOf}
 use Rattle.matchit.specs.Seek.{own, step, or_else, seek, param_step, has_slash, segment, longest_from, longest_suffix, better, cuts, with_suffix, same_text}
 use Rattle.matchit.proofs.ParamLemmas.{better-empty}
+use Rattle.desk_command.proofs.Truths.{not_true, same}
 
 -- what follows the part that a path begins with
 abbrev pub after_part : List ℕ → List ℕ
@@ -35,13 +36,6 @@ whole (x ∷ t) = cond (x == 256) (ends_part t) (ltb x 256) && whole t
 abbrev pub AreBytes : List ℕ → Type 0
 AreBytes [] = Unit {0}
 AreBytes (b ∷ p) = (b < 256) × AreBytes p
-
-not_true : (b : Bool) → not b ≡ true → b ≡ false
-not_true true h = cc
-not_true false h = refl
-
-same : (a b : ℕ) → a == b ≡ true → a ≡ b
-same a b e = grind (arith, nat_tests)
 
 whole_ended : (t : List ℕ) → ends_part t ≡ true → Ended t
 whole_ended [] h = tt

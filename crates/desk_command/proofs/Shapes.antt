@@ -6,6 +6,7 @@ use Rattle.std.proofs.lemmas.Bool.Decides.{nat_tests}
 use Rattle.desk_command.specs.Places.{Any, Matches, Piece, Word, pattern_of}
 use Rattle.desk_command.specs.Routes.{behind_slash, is_part, is_slash, slash, target_of}
 use Rattle.desk_command.proofs.Seeking.{after_part, fits}
+use Rattle.desk_command.proofs.Truths.{not_true, or_false, same}
 
 -- a word of a shape is a part, of bytes
 abbrev pub is_word : List ℕ → Bool
@@ -16,19 +17,12 @@ is_shape [] = true
 is_shape (Word word ∷ shape) = is_word word && is_shape shape
 is_shape (Any ∷ shape) = is_shape shape
 
-same : (a b : ℕ) → a == b ≡ true → a ≡ b
-same a b e = grind (arith, nat_tests)
-
 same_back : (a b : ℕ) → a ≡ b → a == b ≡ true
 same_back a b e = grind (arith, nat_tests)
 
-not_true : (b : Bool) → not b ≡ true → b ≡ false
-not_true true h = cc
-not_true false h = refl
-
-or_false : (a b : Bool) → (a || b) ≡ false → (a ≡ false) × (b ≡ false)
-or_false true b h = absurd (cc)
-or_false false b h = (refl, h)
+-- a part has no slash
+pub free_part : (part : List ℕ) → is_part part ≡ true → list_any is_slash part ≡ false
+free_part part is = not_true (list_any is_slash part) (and_parts (nat_lt 0 (length part)) (not (list_any is_slash part)) is).1
 
 cons_same : (x b : ℕ) (p q : List ℕ) → x ≡ b → p ≡ q → b ∷ p ≡ x ∷ q
 cons_same x b p q e f = cc

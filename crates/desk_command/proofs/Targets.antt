@@ -6,15 +6,9 @@ use Rattle.desk_command.specs.Lines.{Finds, line_at}
 use Rattle.desk_command.specs.Routes.{HasRoute, IsOf, Route, is_part, is_slash, parts_of, seen, slash, target_of}
 use Rattle.desk_command.specs.Targets.{IsMadeOf}
 use Rattle.desk_command.specs.declared.route.Route.{Route as LentRoute}
+use Rattle.desk_command.proofs.Shapes.{free_part}
 use Rattle.desk_command.proofs.Tables.{is_found}
-
-not_false : (b : Bool) → not b ≡ true → b ≡ false
-not_false true h = cc
-not_false false h = refl
-
-or_false : (a b : Bool) → (a || b) ≡ false → (a ≡ false) × (b ≡ false)
-or_false true b h = absurd (cc)
-or_false false b h = (refl, h)
+use Rattle.desk_command.proofs.Truths.{or_false}
 
 -- a part without a slash, before the end and before a slash
 last_part : (part : List ℕ) → list_any is_slash part ≡ false → slice_split is_slash part ≡ part ∷ []
@@ -30,16 +24,13 @@ inner_part (byte ∷ part) rest free =
     let h = or_false (is_slash byte) (list_any is_slash part) free in
     rw (h.0, inner_part part rest h.1)
 
-free_of_slash : (part : List ℕ) → is_part part ≡ true → list_any is_slash part ≡ false
-free_of_slash part is = not_false (list_any is_slash part) (and_parts (nat_lt 0 (length part)) (not (list_any is_slash part)) is).1
-
 -- a part behind a slash, and other parts behind it
 behind : (part : List ℕ) (parts : List (List ℕ)) → list_any is_slash part ≡ false → list_all is_part parts ≡ true
     → slice_split is_slash (part ++ target_of parts) ≡ part ∷ parts
 behind part [] free all = rw append-nil (last_part part free)
 behind part (next ∷ parts) free all =
     let h = and_parts (is_part next) (list_all is_part parts) all in
-    rw (inner_part part (next ++ target_of parts) free, behind next parts (free_of_slash next h.0) h.1)
+    rw (inner_part part (next ++ target_of parts) free, behind next parts (free_part next h.0) h.1)
 
 split_parts : (parts : List (List ℕ)) → list_all is_part parts ≡ true → slice_split is_slash (target_of parts) ≡ [] ∷ parts
 split_parts parts all = behind [] parts refl all

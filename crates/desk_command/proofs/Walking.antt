@@ -9,7 +9,8 @@ use Rattle.matchit.specs.Params.{next_at, wild_from, wild_stop, part_of, after_t
 use Rattle.matchit.specs.Seek.{segment}
 use Rattle.desk_command.specs.Places.{Any, Matches, Piece, Word, pattern_of}
 use Rattle.desk_command.specs.Routes.{is_part, is_slash, slash, target_of}
-use Rattle.desk_command.proofs.Shapes.{is_shape, is_word}
+use Rattle.desk_command.proofs.Shapes.{free_part, is_shape, is_word}
+use Rattle.desk_command.proofs.Truths.{or_false}
 
 -- the parts that a shape's parameters take
 abbrev pub taken : List Piece → List (List ℕ) → List (List ℕ)
@@ -34,17 +35,6 @@ walked text (name ∷ names) (part ∷ parts) = (part_of text name.0 name.1, par
 
 abbrev are_small : List ℕ → Bool
 are_small word = list_all (λ byte. ltb byte 256) word
-
-or_false : (a b : Bool) → (a || b) ≡ false → (a ≡ false) × (b ≡ false)
-or_false true b h = absurd (cc)
-or_false false b h = (refl, h)
-
-not_true : (b : Bool) → not b ≡ true → b ≡ false
-not_true true h = cc
-not_true false h = refl
-
-free_part : (part : List ℕ) → is_part part ≡ true → list_any is_slash part ≡ false
-free_part part is = not_true (list_any is_slash part) (and_parts (ltb 0 (length part)) (not (list_any is_slash part)) is).1
 
 ltb_yes : (a b : ℕ) → a < b → ltb a b ≡ true
 ltb_yes a b h = grind (arith, nat_tests)

@@ -80,8 +80,8 @@ pattern_of [] = []
 pattern_of (Word word ∷ shape) = slash ∷ (word ++ pattern_of shape)
 pattern_of (Any ∷ shape) = slash ∷ param_token ∷ pattern_of shape
 
-abbrev pub route_of : Place → RouteOf Place
-route_of place = record {
+abbrev pub entry_of : Place → RouteOf Place
+entry_of place = record {
   pattern = pattern_of (shape_of place);
   text = text_of place;
   names = names_of place;
@@ -89,7 +89,7 @@ route_of place = record {
 }
 
 abbrev pub row_of : Place → List ℕ × RouteOf Place
-row_of place = (pattern_of (shape_of place), route_of place)
+row_of place = (pattern_of (shape_of place), entry_of place)
 
 -- the places in the order of the router
 abbrev pub all_places : List Place

@@ -102,7 +102,7 @@ pub record HasRoute (method target : List ℕ) (route : Route) : Type 0 where
   pub target_is : target ≡ target_of (parts_of route)
   pub are_parts : IsTrue (list_all is_part (parts_of route))
 
--- the route as the code has it
+-- a route, of one whose parts are lent
 abbrev pub seen : LentRoute → Route
 seen lent.Define = Define
 seen (lent.Drop kind name) = Drop kind name.now

@@ -6,7 +6,7 @@ ghost use Rattle.desk_command.specs.Routes.{IsOf, kind_word, seen};
 ghost use Rattle.desk_command.specs.Targets.{parts_in};
 
 use crate::place::Routes;
-use crate::target::{Target, target_of};
+use crate::target::{Target, find_target};
 use catalog_change::ResourceKind;
 
 /// A line of the table of routes, with the parts of the target that it takes.
@@ -35,7 +35,7 @@ pub(crate) enum Route<'a> {
 pub(crate) fn route_of<'a>(routes: &Routes, method: &str, target: &'a str) -> Option<Route<'a>>
     ensures { Finds method.now target.now (option_map seen result) }
 {
-    match target_of(routes, target) {
+    match find_target(routes, target) {
         Some(found) => route_by(method, found),
         None => None,
     }

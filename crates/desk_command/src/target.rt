@@ -30,7 +30,7 @@ pub(crate) enum Target<'a> {
 }
 
 /// What a target is, where it leads to a place of the desk.
-pub(crate) fn target_of<'a>(routes: &Routes, target: &'a str) -> Option<Target<'a>>
+pub(crate) fn find_target<'a>(routes: &Routes, target: &'a str) -> Option<Target<'a>>
     ensures { MatchOption result (first all_rows target.now ≡ None)
         (λ found. IsMadeOf target.now (parts_in found)) }
 {

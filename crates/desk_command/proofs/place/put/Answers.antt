@@ -1,4 +1,4 @@
-use Rattle.desk_command.proofs.Placing.{placed_by}
+use Rattle.desk_command.proofs.Inserting.{placed_by}
 use Rattle.desk_command.proofs.place.put.Goals as goal
 use Rattle.desk_command.proofs.place.put.Goals.{in-Ok, in-Err}
 

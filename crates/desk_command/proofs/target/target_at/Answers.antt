@@ -2,7 +2,7 @@ use Rattle.std.proofs.Common.{codes, subst, List, ℕ}
 use Rattle.desk_command.specs.Targets.{IsAt}
 use Rattle.desk_command.specs.declared.place.Place.{Place}
 use Rattle.desk_command.specs.declared.place.Place.TheVariants as places
-use Rattle.desk_command.proofs.Placed.{part_at, resource_is, slot_is, savegrp_is, set_is, body_is, finish_is, abort_is, amend_is}
+use Rattle.desk_command.proofs.Taking.{part_at, resource_is, slot_is, savegrp_is, set_is, body_is, finish_is, abort_is, amend_is}
 use Rattle.desk_command.proofs.target.target_at.Goals as goal
 
 pub returns-in-Slot : goal.returns-in-Slot

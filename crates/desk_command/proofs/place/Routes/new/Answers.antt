@@ -1,4 +1,4 @@
-use Rattle.desk_command.proofs.Placing.{all_placed}
+use Rattle.desk_command.proofs.Inserting.{all_placed}
 use Rattle.desk_command.proofs.place.Routes.new.Goals as goal
 
 pub invariant_of-result : goal.invariant_of-result

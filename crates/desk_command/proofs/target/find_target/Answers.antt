@@ -1,6 +1,6 @@
 use Rattle.desk_command.specs.Targets.{parts_in}
-use Rattle.desk_command.proofs.Placed.{made_of}
-use Rattle.desk_command.proofs.target.target_of.Goals as goal
+use Rattle.desk_command.proofs.Taking.{made_of}
+use Rattle.desk_command.proofs.target.find_target.Goals as goal
 
 pub returns-in-Ok : goal.returns-in-Ok
 returns-in-Ok c =

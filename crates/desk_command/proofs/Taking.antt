@@ -14,7 +14,7 @@ use Rattle.desk_command.specs.declared.place.Place.{Place}
 use Rattle.desk_command.specs.declared.place.Place.TheVariants as places
 use Rattle.desk_command.proofs.Leading.{all_shapes, leads}
 use Rattle.desk_command.proofs.Seeking.{AreBytes}
-use Rattle.desk_command.proofs.Parted.{walk_place, walk_text, walked_of}
+use Rattle.desk_command.proofs.Parameters.{walk_place, walk_text, walked_of}
 use Rattle.desk_command.proofs.Shapes.{is_shape, is_word}
 
 abbrev Walk : Params → List (List ℕ × List ℕ)
