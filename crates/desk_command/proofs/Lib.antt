@@ -1,0 +1,14 @@
+pub mod Answering
+pub mod Decimals
+pub mod Inserting
+pub mod Leading
+pub mod Names
+pub mod Objects
+pub mod Parameters
+pub mod Seeking
+pub mod Shapes
+pub mod Tables
+pub mod Taking
+pub mod Targets
+pub mod Truths
+pub mod Walking
