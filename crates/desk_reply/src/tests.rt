@@ -50,7 +50,7 @@ fn section(volid: u64, mark: u64, last: u64, from: u64, to: u64) -> Section {
     Section {
         volid: Volid(volid),
         mark,
-        first: mark + 1,
+        first: mark.saturating_add(1),
         last,
         from,
         to,
@@ -169,8 +169,8 @@ fn is_refused(alloc: Global, refusal: Refusal, text: &str) -> Result<bool, Memor
     Ok(reply.as_slice() == text.as_bytes())
 }
 
-// Answers with numbers alone, and the places of their texts.
-fn numbers() -> [(Answer, usize); 6] {
+// Answers with numbers alone, with their texts.
+fn numbers() -> [(Answer, &'static str); 6] {
     let labelled = Answer::Labelled {
         cart: Cart(1),
         volid: Volid(10),
@@ -185,20 +185,20 @@ fn numbers() -> [(Answer, usize); 6] {
         ssid: Ssid(7),
     };
     [
-        (Answer::Defined { count: 10 }, 0),
-        (Answer::Empty, 1),
-        (labelled, 2),
-        (mounted, 3),
-        (Answer::Next { next: 22_363 }, 8),
-        (finished, 9),
+        (Answer::Defined { count: 10 }, DONE[0]),
+        (Answer::Empty, DONE[1]),
+        (labelled, DONE[2]),
+        (mounted, DONE[3]),
+        (Answer::Next { next: 22_363 }, DONE[8]),
+        (finished, DONE[9]),
     ]
 }
 
 #[test]
 fn answers_have_their_texts(rt: HostRuntime) -> Result<(), Fail> {
     let alloc = rt.alloc();
-    for (answer, place) in numbers() {
-        assert_eq!(rt; is_done(alloc, answer, DONE[place])?, true);
+    for (answer, text) in numbers() {
+        assert_eq!(rt; is_done(alloc, answer, text)?, true);
     }
     assert_eq!(rt; is_done(alloc, slots(alloc)?, DONE[4])?, true);
     let none = Answer::Slots(Items::of(Vec::new(alloc)));
@@ -233,9 +233,9 @@ fn device_fault(alloc: Global) -> Result<Refusal, Memory> {
     Ok(Refusal::DeviceFault { file: 3, closed })
 }
 
-// Refusals with numbers alone, and the places of their texts. Of two fields each stands before,
-// between or behind the number and the name.
-fn refusals() -> [(Refusal, usize); 8] {
+// Refusals with numbers alone, with their texts. Of two fields each stands before, between or
+// behind the number and the name.
+fn refusals() -> [(Refusal, &'static str); 8] {
     let not_open = Refusal::NotOpen {
         ssid: Ssid(u64::MAX),
     };
@@ -252,22 +252,22 @@ fn refusals() -> [(Refusal, usize); 8] {
         block: 17,
     };
     [
-        (not_open, 2),
-        (Refusal::PieceTooLong { limit: 1_048_576 }, 3),
-        (Refusal::BadStream { offset: 9064 }, 4),
-        (busy, 6),
-        (pending, 7),
-        (damaged, 8),
-        (Refusal::Purged { ssid: Ssid(2) }, 9),
-        (Refusal::NoMemory, 12),
+        (not_open, REFUSED[2]),
+        (Refusal::PieceTooLong { limit: 1_048_576 }, REFUSED[3]),
+        (Refusal::BadStream { offset: 9064 }, REFUSED[4]),
+        (busy, REFUSED[6]),
+        (pending, REFUSED[7]),
+        (damaged, REFUSED[8]),
+        (Refusal::Purged { ssid: Ssid(2) }, REFUSED[9]),
+        (Refusal::NoMemory, REFUSED[12]),
     ]
 }
 
 #[test]
 fn refusals_have_their_texts(rt: HostRuntime) -> Result<(), Fail> {
     let alloc = rt.alloc();
-    for (refusal, place) in refusals() {
-        assert_eq!(rt; is_refused(alloc, refusal, REFUSED[place])?, true);
+    for (refusal, text) in refusals() {
+        assert_eq!(rt; is_refused(alloc, refusal, text)?, true);
     }
     Ok(())
 }
