@@ -16,6 +16,11 @@ use room_rules::Action;
 use serde_json::Value;
 use std::alloc::Global;
 
+/// The most bytes of a save set's name, and of all other names.
+pub(crate) const MAX_SET_NAME: u32 = 255;
+
+pub(crate) const MAX_NAME: u32 = 64;
+
 #[tactic(auto, using(crate::proofs::Objects::object_there, crate::proofs::Objects::object_other, crate::proofs::Objects::object_missing))]
 /// The JSON object that a body is.
 pub(crate) fn object_of(alloc: Global, body: &[u8]) -> Result<Value, Refusal>

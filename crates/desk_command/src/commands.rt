@@ -9,18 +9,13 @@ ghost use Rattle.desk_command.specs.Outcomes.{Answers};
 ghost use Rattle.room_command.specs.declared.command.Command.TheVariants.{Abort, Delete, Show};
 
 use crate::body::{
-    digest_at, name_at, object_of, optional_action, optional_bool, optional_name, optional_u32,
-    optional_u64, u8_at, u32_at, u64_at,
+    MAX_NAME, MAX_SET_NAME, digest_at, name_at, object_of, optional_action, optional_bool,
+    optional_name, optional_u32, optional_u64, u8_at, u32_at, u64_at,
 };
 use crate::part::{name_part, ssid_part, u8_part, u64_part};
 use room_base::{Cart, Refusal, Ssid};
 use room_command::{Command, ResourceKind};
 use std::alloc::Global;
-
-/// The most bytes of a save set's name, and of other names.
-const MAX_SET_NAME: u32 = 255;
-
-const MAX_NAME: u32 = 64;
 
 pub(crate) fn drop_of(alloc: Global, kind: ResourceKind, name: &str) -> Result<Command, Refusal>
     ensures { Answers (drop_of kind name.now) result }

@@ -7,13 +7,10 @@ ghost use Rattle.desk_command.specs.Fields.{decimal_of, most_u8, most_u64, name_
 ghost use Rattle.desk_command.specs.Commands.{ssid_part};
 ghost use Rattle.desk_command.specs.Outcomes.{Answers};
 
-use crate::body::name_of;
+use crate::body::{MAX_NAME, name_of};
 use crate::refusing::malformed;
 use room_base::{Name, Refusal, Ssid};
 use std::alloc::Global;
-
-/// The most bytes of a name in a target.
-const MAX_NAME: u32 = 64;
 
 fn is_digits(part: &str) -> bool
     ensures { result ≡ list_all is_ascii_digit part.now }

@@ -10,7 +10,7 @@ use crate::target::{Target, find_target};
 use catalog_change::ResourceKind;
 
 /// A line of the table of routes, with the parts of the target that it takes.
-#[derive(Clone, Copy, Debug)]
+#[derive(Clone, Copy)]
 pub(crate) enum Route<'a> {
     Define,
     Drop { kind: ResourceKind, name: &'a str },

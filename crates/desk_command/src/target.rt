@@ -10,7 +10,7 @@ use crate::place::{Place, Routes};
 use matchit::Params;
 
 /// Where a target leads, with the parts that stand for numbers and names.
-#[derive(Clone, Copy, Debug)]
+#[derive(Clone, Copy)]
 pub(crate) enum Target<'a> {
     Resources,
     Resource { kind: &'a str, name: &'a str },
