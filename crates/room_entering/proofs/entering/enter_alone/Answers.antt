@@ -1,0 +1,19 @@
+use Rattle.std.proofs.Common.{◌≡◌, ◌∷◌, [], true, subst, sym}
+use Rattle.room_base.specs.declared.refusal.Refusal.TheVariants.{TooMany}
+use Rattle.room_catalog.specs.Held.{HeldCatalogue}
+use Rattle.room_command.specs.declared.reply.Reply.TheVariants as replies
+use Rattle.room_effects.specs.Effects.{Enter}
+use Rattle.room_plan.specs.Entering.{ceiling, is_at_ceiling}
+use Rattle.room_plan.proofs.Following.{follows_refusal}
+use Rattle.room_entering.proofs.Ceilings.{follows_at_ceiling}
+use Rattle.room_entering.proofs.entering.enter_alone.Goals as goal
+
+-- src/entering.rt:102:9
+pub returns-then-is_at_ceiling : goal.returns-then-is_at_ceiling
+returns-then-is_at_ceiling g c =
+    let room = c.args.room.now.room in
+    let disk = g.D.Store.view c.args.store.now in
+    let C : HeldCatalogue → Type 0 = λ held. is_at_ceiling held.lists ≡ true in
+    let at : is_at_ceiling room.catalogue ≡ true = subst C c.catalogue.ensures (sym c.if-is_at_ceiling.ensures) in
+    follows_at_ceiling [] (Enter c.args.m c.args.change ∷ []) (replies.Done c.args.answer) (replies.Refused (TooMany ceiling)) room room disk disk at
+    (follows_refusal (TooMany ceiling) room disk)

@@ -1,0 +1,7 @@
+mod Finding
+mod Loading
+mod Putting
+mod Emptying
+mod Recording
+mod Relabelling
+mod Asking

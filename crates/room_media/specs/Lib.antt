@@ -1,0 +1,5 @@
+pub mod Slots
+pub mod Mounting
+pub mod Inventory
+pub mod Labelling
+pub mod NewVolumes
