@@ -2,7 +2,6 @@
 use Rattle.std.proofs.Common.{◌≡◌, ℕ, List, [], ◌∷◌, None, Err, inl, inr, ap, codes}
 use Rattle.toml.specs.Data.{Members}
 use Rattle.catalog_change.specs.Resources.{IsSetName, IsShortName}
-use Rattle.room_rules.specs.declared.schedule.Override.{Override}
 use Rattle.room_rules.specs.declared.schedule.Period.{Period}
 use Rattle.resource_text.specs.Lists.{MayHaveTexts}
 use Rattle.resource_text.specs.Reading.{HasText, IsItself, Reads, ReadsField, other_key}

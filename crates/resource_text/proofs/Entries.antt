@@ -1,14 +1,15 @@
 -- Tables that are read key by key.
-use Rattle.std.proofs.Common.{◌≡◌, ℕ, List, [], ◌∷◌, ◌++◌, length, refl, sym, ap, subst, ◌∙◌, suc, ◌<◌, ◌≤◌, Err, arith, string_bytes, Some}
+use Rattle.std.proofs.Common.{◌≡◌, ℕ, List, [], ◌∷◌, ◌++◌, length, refl, sym, ap, subst, ◌∙◌, suc, string_bytes, Some}
 use Rattle.std.proofs.lemmas.List.{append_assoc, append-nil}
-use Rattle.toml.proofs.Views.{Entry}
+use Rattle.std.specs.List.Sorted.{IsStrictlySortedBy}
+use Rattle.std.specs.Map.{keys_of}
+use Rattle.std.specs.String.{string_cmp}
+use Rattle.toml.proofs.Views.{Entry, is_before-sorted}
 use Rattle.toml.specs.Data.{Data, string, as_str}
 use Rattle.std.proofs.lemmas.Option.{same_Some}
 use Rattle.toml.specs.View.{view, members_view}
 use Rattle.resource_text.specs.Lists.{AreEntries}
-use Rattle.resource_text.specs.Reading.{NamesField, ReadsField}
-use Rattle.resource_text.specs.declared.fault.TextFault.{TextFault}
-use Rattle.resource_text.proofs.Items.{names_none}
+use Rattle.resource_text.specs.Reading.{KeysAscend}
 
 -- Of the entries of a table those before a place are read, as these: with what the rest stands for
 -- they are what all stand for, and where all stand for something the rest does.
@@ -55,3 +56,9 @@ as_many_entries Is (entry ∷ entries) xs (x, others, is, are, same) =
 -- a value is one text
 pub one_text : (value : Data) (text other : List ℕ) → as_str value ≡ Some text → value ≡ string other → other ≡ text
 one_text value text other is same = same_Some other text (sym (ap as_str same) ∙ is)
+
+-- the keys of a map ascend
+pub keys_ascend : (entries : List Entry) → IsStrictlySortedBy string_cmp (keys_of entries) → KeysAscend (members_view entries)
+unfolding IsStrictlySortedBy
+keys_ascend [] sorted = tt
+keys_ascend (entry ∷ entries) sorted = (is_before-sorted entry.0 entries sorted.0, keys_ascend entries sorted.1)

@@ -1,3 +1,6 @@
+pub mod Apart
+pub mod Allowed
+pub mod DayOrder
 pub mod Composing
 pub mod Dates
 pub mod Documents

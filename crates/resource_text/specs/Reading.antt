@@ -1,10 +1,10 @@
 -- How a table of a text is read: field by field, in a fixed order, up to the first that isn't
 -- allowed.
-use Rattle.std.specs.Prelude.{◌≡◌, ◌⊎◌, ℕ, List, [], ◌∷◌, Bool, if◌then◌else◌, codes, nat_eq}
+use Rattle.std.specs.Prelude.{◌≡◌, ◌⊎◌, ℕ, List, Bool, true, if◌then◌else◌, codes, nat_eq}
 use Rattle.std.specs.Prelude.{Option, Some, None, Result, Ok, Err}
 use Rattle.std.specs.List.{list_any}
 use Rattle.std.specs.Cmp.Lexicographic.{pointwise}
-use Rattle.toml.specs.Data.{Data, string, table, Members, no_members, member, get_member}
+use Rattle.toml.specs.Data.{Data, string, table, Members, no_members, member, get_member, is_before}
 use Rattle.catalog_change.specs.Resources.{IsShortName}
 use Rattle.resource_text.specs.declared.fault.TextFault.{TextFault}
 use Rattle.resource_text.specs.declared.fault.TextFault.TheVariants.{Malformed, Memory}
@@ -93,9 +93,14 @@ ReadsKeys keys all (Err Memory) = Unit {0}
 
 -- ---- values
 
--- a value is a table with these members
+-- the keys of a table ascend
+abbrev pub KeysAscend : Members → Type 0
+KeysAscend no_members = Unit {0}
+KeysAscend (member key value members) = (is_before key members ≡ true) × KeysAscend members
+
+-- a value is a table with these members, in the order of their keys
 abbrev pub IsTable : Data → Members → Type 0
-IsTable value members = value ≡ table members
+IsTable value members = (value ≡ table members) × KeysAscend members
 
 -- a text that is allowed stands for itself
 abbrev pub IsItself : (List ℕ → Type 0) → List ℕ → List ℕ → Type 0

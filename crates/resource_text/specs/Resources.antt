@@ -1,24 +1,10 @@
 -- What a text of resources stands for.
-use Rattle.std.specs.Prelude.{◌≡◌, ◌⊎◌, ℕ, ℤ, ◌≤◌, List, [], ◌∷◌, ◌++◌, length, codes, map, pos}
+use Rattle.std.specs.Prelude.{◌≡◌, ◌⊎◌, ℕ, ◌≤◌, List, [], ◌∷◌, ◌++◌, length, codes, map, pos}
 use Rattle.std.specs.Prelude.{Option, Some, None, Result, Ok, Err, Vec}
 use Rattle.std.specs.declared.alloc.Global.{Global}
 use Rattle.std.specs.Str.{IsUtf8}
-use Rattle.toml.specs.Data.{
-  Data,
-  string,
-  integer,
-  array,
-  table,
-  Items,
-  no_items,
-  item,
-  Members,
-  no_members,
-  member,
-  get_member,
-}
+use Rattle.toml.specs.Data.{Data, string, integer, array, table, Items, Members, no_members, member, get_member}
 use Rattle.toml.specs.Parse.{parse_document}
-use Rattle.room_rules.specs.declared.group.Group.{Group}
 use Rattle.room_rules.specs.declared.group.Member.{Member}
 use Rattle.room_rules.specs.declared.policy.Unit.{Unit as PolicyUnit}
 use Rattle.room_rules.specs.declared.schedule.Override.{Override}
@@ -39,6 +25,7 @@ use Rattle.resource_text.specs.Reading.{
   HasText,
   IsItself,
   IsTable,
+  KeysAscend,
   Outcome,
   other_key,
 }
@@ -114,6 +101,7 @@ IsOverrideText key value override = (word : List ℕ) × (value ≡ string word)
 -- a table has at most so many overrides, in their order
 abbrev pub AreOverrides : Members → List Override → Type 0
 AreOverrides days overrides = AreEntries IsOverrideText days overrides × (length overrides ≤ 64)
+    × KeysAscend days
 
 -- a schedule without overrides has none
 abbrev pub HasOverrides : Members → List Override → Type 0

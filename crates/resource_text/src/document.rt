@@ -1,8 +1,11 @@
 //! A whole text of resources.
 
-ghost use Rattle.std.specs.Prelude.{◌≡◌, codes, true};
+ghost use Rattle.std.specs.Prelude.{◌≡◌, IfOk, codes, true};
+ghost use Rattle.std.specs.List.{AllByRecursion};
 ghost use Rattle.toml.specs.View.{table_view, view};
 ghost use Rattle.toml.specs.Data.{get_member};
+ghost use Rattle.catalog_change.specs.Resources.{IsResource};
+ghost use Rattle.resource_lists.specs.Adding.{AreDistinct};
 ghost use Rattle.resource_text.specs.Reading.{NamesField, Reads, ReadsAs};
 ghost use Rattle.resource_text.specs.Resources.{Adds, IsDocument, ReadsAll, document_gives};
 ghost use Rattle.resource_text.specs.Resources.{each_gives, gives_of, kind_gives, kind_key};
@@ -33,7 +36,9 @@ const KINDS: [ResourceKind; 5] = [
 /// Reads resources from a text: policies, pools, clients, schedules and groups, in this order and
 /// each in the order of their names. `Malformed` names the first field that isn't allowed.
 pub fn read_resources(alloc: Global, text: &[u8]) -> Result<Vec<Resource>, TextFault>
-    ensures { ReadsAll (text_gives text.now) result }
+    ensures gives { ReadsAll (text_gives text.now) result }
+    ensures allowed { IfOk result (λ all. AllByRecursion IsResource all.items) }
+    ensures distinct { IfOk result (λ all. AreDistinct all.items) }
 {
     let table = document_of(alloc, text)?;
     resources_in(alloc, &table)

@@ -58,7 +58,11 @@ pub(crate) fn table_of<'a>(
         result }
 {
     match value.as_table() {
-        Some(table) => Ok(table),
+        Some(table) => {
+            // A map knows that its keys ascend.
+            let _count = table.len();
+            Ok(table)
+        }
         None => Err(malformed(alloc, kind)),
     }
 }

@@ -1,4 +1,4 @@
-use Rattle.std.proofs.Common.{ℕ, MatchOption, subst, rules, arith, ◌∙◌}
+use Rattle.std.proofs.Common.{ℕ, MatchOption, subst, rules, arith}
 use Rattle.std.proofs.lemmas.Option.{slice_get-get_or}
 use Rattle.resource_text.specs.Days.{IsDayText}
 use Rattle.resource_text.proofs.Dates.{day_of_parts}

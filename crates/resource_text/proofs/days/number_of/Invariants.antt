@@ -1,4 +1,4 @@
-use Rattle.std.proofs.Common.{◌≡◌, ◌<◌, ◌≤◌, ◌^◌, ◌+◌, length, take, drop}
+use Rattle.std.proofs.Common.{◌≡◌, ◌<◌, ◌^◌, drop}
 use Rattle.std.specs.List.{AllByRecursion}
 use Rattle.resource_text.specs.Days.{IsDigit, digits_from}
 use Rattle.resource_text.proofs.days.number_of.Given as goal

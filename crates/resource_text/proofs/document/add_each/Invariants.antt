@@ -1,4 +1,4 @@
-use Rattle.std.proofs.Common.{List, Result}
+use Rattle.std.proofs.Common.{List}
 use Rattle.toml.specs.View.{members_view}
 use Rattle.catalog_change.specs.declared.resource.Resource.{Resource}
 use Rattle.resource_text.specs.Reading.{Outcome}

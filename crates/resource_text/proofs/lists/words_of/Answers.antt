@@ -1,4 +1,4 @@
-use Rattle.std.proofs.Common.{arith, rules}
+use Rattle.std.proofs.Common.{arith}
 use Rattle.std.proofs.lemmas.Result.{err_from_is_err_and}
 use Rattle.resource_text.specs.Lists.{IsText}
 use Rattle.resource_text.proofs.Items.{all_read_at, one_more_at, stops_here, too_many}

@@ -1,4 +1,4 @@
-use Rattle.std.proofs.Common.{◌≡◌, Some, subst, ap, rules}
+use Rattle.std.proofs.Common.{◌≡◌, Some, subst, rules}
 use Rattle.toml.specs.Data.{as_str}
 use Rattle.toml.specs.View.{view}
 use Rattle.resource_text.specs.Words.{IsActionWord}

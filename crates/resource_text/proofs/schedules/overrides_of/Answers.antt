@@ -3,7 +3,7 @@ use Rattle.std.proofs.lemmas.Grind.{common_steps}
 use Rattle.toml.proofs.Views.{Entry}
 use Rattle.toml.specs.View.{members_view, view}
 use Rattle.resource_text.specs.Resources.{AreOverrides, IsOverrideText}
-use Rattle.resource_text.proofs.Entries.{AreReadSoFar, as_many_entries, entries_read, entry_stops, next_read}
+use Rattle.resource_text.proofs.Entries.{AreReadSoFar, as_many_entries, entries_read, entry_stops, keys_ascend, next_read}
 use Rattle.resource_text.proofs.Items.{names_none}
 use Rattle.resource_text.proofs.schedules.overrides_of.Goals as goal
 
@@ -53,4 +53,4 @@ returns c =
     let same = as_many_entries IsOverrideText all c.days.overrides.items are in
     let count : c.len.result ≡ length all = c.len.ensures.len in
     let few = c.if-len-gt-MAX_OVERRIDES.false in
-    rw c.of.ensures (are, omega arith)
+    rw c.of.ensures (are, omega arith, keys_ascend all c.len.ensures.ordered)

@@ -1,0 +1,4 @@
+mod Lists
+mod Naming
+mod Definable
+mod Droppable

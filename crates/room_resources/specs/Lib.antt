@@ -1,0 +1,4 @@
+pub mod Called
+pub mod Defining
+pub mod Dropping
+pub mod Users
