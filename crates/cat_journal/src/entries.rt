@@ -17,7 +17,7 @@ use std::alloc::Global;
 
 /// What stands from a gate on: it is closed, or neither closed nor before an entry, or open before
 /// an entry with these bytes.
-#[derive(Debug, Drop)]
+#[derive(Drop)]
 pub(crate) enum EntryRead {
     Closed,
     Broken,

@@ -18,7 +18,7 @@ use std::alloc::Global;
 
 /// An entry of a journal: its number, where its gate stands, and its bytes. A part has the number
 /// of the next change.
-#[derive(Debug, Drop)]
+#[derive(Drop)]
 pub struct Entry {
     pub number: u64,
     pub place: u64,
@@ -26,7 +26,7 @@ pub struct Entry {
 }
 
 /// Entries, the number of the last change, and the gate behind them, which is closed or broken.
-#[derive(Debug, Drop)]
+#[derive(Drop)]
 pub(crate) struct EntryList {
     pub(crate) entries: Items<Entry>,
     pub(crate) last: u64,

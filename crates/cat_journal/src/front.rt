@@ -21,7 +21,7 @@ use std::alloc::Global;
 /// The head of an open file that has `end` bytes: its fields are allowed, and its snapshot, of
 /// `size` bytes, ends in the file. Whether the digest is that of the fields and the snapshot is to
 /// be judged yet.
-#[derive(Clone, Copy, Debug)]
+#[derive(Clone, Copy)]
 pub(crate) struct FileHead {
     pub(crate) form: u8,
     pub(crate) generation: u64,
@@ -33,7 +33,7 @@ pub(crate) struct FileHead {
 }
 
 /// What the front of a file is: its gate is closed, or open before a head, or before none.
-#[derive(Clone, Copy, Debug)]
+#[derive(Clone, Copy)]
 pub(crate) enum FrontRead {
     Shut,
     Open(FileHead),

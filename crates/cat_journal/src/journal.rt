@@ -26,7 +26,7 @@ use std::alloc::Global;
 use std::marker::Model;
 
 /// A journal that stands at the gate behind its last entry, with memory for entries of some length.
-#[derive(Debug, Drop)]
+#[derive(Drop)]
 pub struct Journal {
     current: Option<CurrentFile>,
     last: u64,

@@ -23,6 +23,3 @@ pub use laws::{
     every_meaning, one_meaning,
 };
 pub use opening::{OpenFault, Opened};
-
-#[cfg(test)]
-mod tests;

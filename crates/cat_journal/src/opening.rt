@@ -25,7 +25,7 @@ use std::alloc::Global;
 /// An opened journal, the number of its current file, and what that file holds: a snapshot with the
 /// number of the last change in it, and the entries behind it. Where no file is open, there is no
 /// current file, the number is 0, and snapshot and entries are empty.
-#[derive(Debug, Drop)]
+#[derive(Drop)]
 pub struct Opened {
     pub journal: Journal,
     pub file: Option<u32>,
@@ -35,7 +35,7 @@ pub struct Opened {
 }
 
 /// Why a journal can't be opened.
-#[derive(Clone, Copy, Debug, PartialEq, Eq)]
+#[derive(Clone, Copy, PartialEq, Eq)]
 pub enum OpenFault {
     /// The front of the file is damaged (place 0), or the entry whose gate stands at that place.
     Damaged { file: u32, place: u64 },

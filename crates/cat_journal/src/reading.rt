@@ -13,7 +13,7 @@ use std::alloc::{AllocError, AllocFailed, Global};
 use std::marker::Model;
 
 /// Why reading ended.
-#[derive(Clone, Copy, Debug, PartialEq, Eq)]
+#[derive(Clone, Copy, PartialEq, Eq)]
 pub(crate) enum ReadFault {
     Failed { file: u32 },
     Memory,
@@ -87,7 +87,7 @@ fn read_part<D: Store>(
 pub(crate) const PIECE_SIZE: usize = 1 << 20;
 
 /// A file from a place on, which is read in large pieces.
-#[derive(Debug, Drop)]
+#[derive(Drop)]
 pub(crate) struct Pieces {
     file: u32,
     next: u64,

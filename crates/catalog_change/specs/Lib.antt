@@ -1,3 +1,4 @@
 pub mod Resources
 pub mod Changes
 pub mod Catalogues
+pub mod Subjects

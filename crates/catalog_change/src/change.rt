@@ -7,7 +7,7 @@ use room_base::{Cart, CopyNo, Items, Memory, Moment, Name, Ssid, Volid};
 use save_stream::{IndexEntry, SetHead};
 
 /// A change of the catalogue, as the journal holds it.
-#[derive(Debug, PartialEq, Drop)]
+#[derive(Drop)]
 pub enum Change {
     /// Resources were added.
     Defined {
@@ -97,7 +97,31 @@ pub enum Change {
 }
 
 impl Change {
+    ghost use Rattle.catalog_change.specs.Subjects.{CompleteSets, Copies, Media, Resources, Sets};
+    ghost use Rattle.catalog_change.specs.Subjects.{subject_of};
+
     pub fn copy(&self) -> Result<Change, Memory>
+        ensures { IfOk result (λ copy. copy ≡ self.now) }
+    {
+        match self {
+            Change::Defined { .. } | Change::Dropped { .. } => self.copy_of_resources(),
+            Change::Loaded { .. } | Change::Ejected { .. } | Change::Labelled { .. } => {
+                self.copy_of_media()
+            }
+            Change::Begun { .. }
+            | Change::Aborted { .. }
+            | Change::Amended { .. }
+            | Change::Deleted { .. }
+            | Change::Purged { .. }
+            | Change::IndexPart { .. } => self.copy_of_sets(),
+            Change::Finished { .. } | Change::FinishedParts { .. } => self.copy_of_complete_set(),
+            Change::CopyBegun { .. } | Change::CopyDone { .. } => self.copy_of_copies(),
+        }
+    }
+
+    // The copy of a change of resources.
+    fn copy_of_resources(&self) -> Result<Change, Memory>
+        requires { subject_of self.now ≡ Resources }
         ensures { IfOk result (λ copy. copy ≡ self.now) }
     {
         Ok(match self {
@@ -108,6 +132,16 @@ impl Change {
                 kind: *kind,
                 name: name.copy()?,
             },
+            _ => unreachable!(),
+        })
+    }
+
+    // The copy of a change of slots and labels.
+    fn copy_of_media(&self) -> Result<Change, Memory>
+        requires { subject_of self.now ≡ Media }
+        ensures { IfOk result (λ copy. copy ≡ self.now) }
+    {
+        Ok(match self {
             Change::Loaded { slot, cart } => Change::Loaded {
                 slot: *slot,
                 cart: *cart,
@@ -126,22 +160,17 @@ impl Change {
                 capacity: *capacity,
                 was: *was,
             },
+            _ => unreachable!(),
+        })
+    }
+
+    // The copy of a change of save sets that makes none of them complete.
+    fn copy_of_sets(&self) -> Result<Change, Memory>
+        requires { subject_of self.now ≡ Sets }
+        ensures { IfOk result (λ copy. copy ≡ self.now) }
+    {
+        Ok(match self {
             Change::Begun { head } => Change::Begun { head: head.copy()? },
-            Change::Finished {
-                ssid,
-                files,
-                bytes,
-                digest,
-                sections,
-                index,
-            } => Change::Finished {
-                ssid: *ssid,
-                files: *files,
-                bytes: *bytes,
-                digest: *digest,
-                sections: sections_copy(sections)?,
-                index: entries_copy(index)?,
-            },
             Change::Aborted { ssid } => Change::Aborted { ssid: *ssid },
             Change::Amended {
                 ssid,
@@ -158,24 +187,34 @@ impl Change {
             Change::Purged { ssids } => Change::Purged {
                 ssids: ssids_copy(ssids)?,
             },
-            Change::CopyBegun { ssid, copy } => Change::CopyBegun {
-                ssid: *ssid,
-                copy: *copy,
-            },
-            Change::CopyDone {
-                ssid,
-                copy,
-                sections,
-                removed,
-            } => Change::CopyDone {
-                ssid: *ssid,
-                copy: *copy,
-                sections: sections_copy(sections)?,
-                removed: *removed,
-            },
             Change::IndexPart { ssid, part, index } => Change::IndexPart {
                 ssid: *ssid,
                 part: *part,
+                index: entries_copy(index)?,
+            },
+            _ => unreachable!(),
+        })
+    }
+
+    // The copy of a change that makes a save set complete.
+    fn copy_of_complete_set(&self) -> Result<Change, Memory>
+        requires { subject_of self.now ≡ CompleteSets }
+        ensures { IfOk result (λ copy. copy ≡ self.now) }
+    {
+        Ok(match self {
+            Change::Finished {
+                ssid,
+                files,
+                bytes,
+                digest,
+                sections,
+                index,
+            } => Change::Finished {
+                ssid: *ssid,
+                files: *files,
+                bytes: *bytes,
+                digest: *digest,
+                sections: sections_copy(sections)?,
                 index: entries_copy(index)?,
             },
             Change::FinishedParts {
@@ -191,6 +230,32 @@ impl Change {
                 digest: *digest,
                 sections: sections_copy(sections)?,
             },
+            _ => unreachable!(),
+        })
+    }
+
+    // The copy of a change of the copies of a save set.
+    fn copy_of_copies(&self) -> Result<Change, Memory>
+        requires { subject_of self.now ≡ Copies }
+        ensures { IfOk result (λ copy. copy ≡ self.now) }
+    {
+        Ok(match self {
+            Change::CopyBegun { ssid, copy } => Change::CopyBegun {
+                ssid: *ssid,
+                copy: *copy,
+            },
+            Change::CopyDone {
+                ssid,
+                copy,
+                sections,
+                removed,
+            } => Change::CopyDone {
+                ssid: *ssid,
+                copy: *copy,
+                sections: sections_copy(sections)?,
+                removed: *removed,
+            },
+            _ => unreachable!(),
         })
     }
 }

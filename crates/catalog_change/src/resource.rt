@@ -5,7 +5,7 @@ use room_base::{Memory, Name};
 use room_rules::{Group, Policy, Pool, Schedule};
 
 /// Whose files are saved, and by which policies they are kept.
-#[derive(Debug, PartialEq, Drop)]
+#[derive(Drop)]
 pub struct Client {
     pub name: Name,
     /// The policy that says how long its files can be browsed.
@@ -27,7 +27,7 @@ impl Client {
 }
 
 /// What a resource is. A resource is known by its kind and its name.
-#[derive(Clone, Copy, Debug, PartialEq, Eq)]
+#[derive(Clone, Copy, PartialEq, Eq)]
 pub enum ResourceKind {
     Policy,
     Pool,
@@ -37,7 +37,7 @@ pub enum ResourceKind {
 }
 
 /// What an operator sets up.
-#[derive(Debug, PartialEq, Drop)]
+#[derive(Drop)]
 pub enum Resource {
     Policy(Policy),
     Pool(Pool),

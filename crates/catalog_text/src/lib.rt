@@ -49,8 +49,3 @@ pub use resource_writing::{put_resource, resource_byte};
 pub use section::Sections;
 pub use ssids::Ssids;
 pub use text::{read_name, read_path, read_text};
-
-#[cfg(test)]
-mod test_texts;
-#[cfg(test)]
-mod tests;

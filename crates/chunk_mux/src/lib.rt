@@ -19,6 +19,3 @@ pub use laws::{
 };
 pub use span::Span;
 pub use tiling::{Placed, Tiling, tile};
-
-#[cfg(test)]
-mod tests;

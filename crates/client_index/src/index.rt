@@ -18,7 +18,7 @@ use std::alloc::Global;
 use std::marker::Model;
 
 /// The entries of one save set, in the order of their paths.
-#[derive(Debug, Drop)]
+#[derive(Drop)]
 pub struct SetIndex {
     ssid: Ssid,
     entries: Items<IndexEntry>,
@@ -26,7 +26,7 @@ pub struct SetIndex {
 
 /// The indexes of save sets: which entries each set has. Contracts see the sets in the order of
 /// their numbers, and how many more indexes can be put without taking memory.
-#[derive(Debug, Drop)]
+#[derive(Drop)]
 pub struct ClientIndex {
     sets: Vec<SetIndex>,
 }

@@ -15,6 +15,3 @@ pub use laws::{
     no_index_is_as_an_empty_one, one_set_hides_what_is_gone, put_is_seen, seen_is_of_its_owner,
 };
 pub use seen::Seen;
-
-#[cfg(test)]
-mod tests;

@@ -8,7 +8,7 @@ use room_base::{Memory, Ssid};
 use std::alloc::{AllocFailed, Global};
 
 /// Why a set has no chain.
-#[derive(Clone, Copy, Debug, PartialEq, Eq)]
+#[derive(Clone, Copy, PartialEq, Eq)]
 pub enum ChainFault {
     /// This set has no complete record.
     BaseGone(Ssid),

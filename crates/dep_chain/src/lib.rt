@@ -22,6 +22,3 @@ pub use laws::{
 pub use need::{needed, user_of};
 pub use open_set::OpenSet;
 pub use purging::{purgeable, purgeable_sets};
-
-#[cfg(test)]
-mod tests;

@@ -15,6 +15,3 @@ mod target;
 pub use asking::command_of;
 pub use laws::{commands_are_one, names_are_tested};
 pub use place::Routes;
-
-#[cfg(test)]
-mod tests;

@@ -16,8 +16,3 @@ pub use laws::{
     refusals_have_their_fields,
 };
 pub use reply::reply_text;
-
-#[cfg(test)]
-mod test_texts;
-#[cfg(test)]
-mod tests;

@@ -20,7 +20,7 @@ pub const MAX_HEAD: usize = 8_192;
 pub const MAX_HEADERS: usize = 32;
 
 /// What the head of a request says.
-#[derive(Debug, Drop)]
+#[derive(Drop)]
 pub struct Head {
     pub method: String,
     pub target: String,

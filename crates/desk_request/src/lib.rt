@@ -14,6 +14,3 @@ pub use fault::RequestFault;
 pub use laws::{answers_hold_of_all_bytes, requests_are_one};
 pub use reading::read_request;
 pub use request::Request;
-
-#[cfg(test)]
-mod tests;

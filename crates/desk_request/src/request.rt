@@ -4,7 +4,7 @@ ghost use Rattle.desk_request.specs.Framing.{max_head, max_body};
 use std::marker::Model;
 
 /// What was read of a request.
-#[derive(Debug, Drop)]
+#[derive(Drop)]
 pub struct Request {
     method: String,
     target: String,

@@ -13,7 +13,7 @@ use Rattle.cat_journal.specs.declared.opening.Opened.{Opened}
 use Rattle.room_catalog.specs.Held.{HeldCatalogue}
 use Rattle.room_effects.specs.View.{IsJournalOf}
 use Rattle.journal_replay.specs.Answers.{AnswersOf, CatalogueOf, ReplaysFile}
-use Rattle.journal_replay.specs.Entries.{Replays}
+use Rattle.room_effects.specs.Replaying.{Replays}
 use Rattle.journal_replay.specs.declared.fault.ReplayFault.{ReplayFault}
 use Rattle.journal_replay.specs.declared.fault.ReplayFault.TheVariants as faults
 use Rattle.journal_replay.proofs.Numbering.{replays_bare, replays_number}
@@ -31,7 +31,8 @@ contents_told files file contents (Ok held) means replays =
       means = means;
       gives = record {
         first = replays.0;
-        begins = replays.1;
+        snapshot = replays.1.is;
+        number = replays.1.number_is;
         replays = subst R (payloads_again contents.head.form contents.head.number (64 + length contents.snapshot) contents.payloads) replays.2;
       };
     }

@@ -11,7 +11,9 @@ use Rattle.catalog_text.proofs.ChangeTexts.{not-bad, one-change}
 use Rattle.room_catalog.specs.Changing.{lists_after}
 use Rattle.room_catalog.specs.Held.{CatalogueLists}
 use Rattle.journal_replay.specs.Answers.{StraysAmong, TellsChange}
-use Rattle.journal_replay.specs.Entries.{Follows, IsStray, MayFollow, Replays, lists_behind}
+use Rattle.room_effects.specs.Replaying.{Follows, MayFollow, Replays, lists_behind}
+use Rattle.room_effects.proofs.Standing.{replays_more}
+use Rattle.journal_replay.specs.Files.{IsStray}
 
 -- bytes are the text of one change
 pub one_change : (payload : List ℕ) (moment other : ℕ) (change changed : Change) → ChangeText payload moment change → ChangeText payload other changed → (moment ≡ other) × (change ≡ changed)
@@ -59,16 +61,6 @@ told_change form bytes payload old new told same is tells =
     let T : Bool → Type 0 = λ told. TellsChange form payload old new (Ok told) in
     let B : List ℕ → Type 0 = λ bytes. TellsChange form bytes old new (Ok told) in
     subst T is (subst B same tells)
-
--- ---- one entry more
-
-pub replays_more : (form : ℕ) (payloads : List (List ℕ)) (payload : List ℕ) (first mid end : CatalogueLists) → Replays form payloads first mid
-    → (one : Stamped) × Follows form payload mid one × (end ≡ lists_behind one mid) → Replays form (payloads ++ payload ∷ []) first end
-replays_more form [] payload first mid end replays told =
-    let F : CatalogueLists → Type 0 = λ lists. Follows form payload lists told.0 in
-    (told.0, subst F replays told.1, told.2 ∙ ap (lists_behind told.0) replays)
-replays_more form (payload' ∷ payloads) payload first mid end replays told =
-    (replays.0, replays.1, replays_more form payloads payload (lists_behind replays.0 first) mid end replays.2 told)
 
 -- ---- the entries of a file
 

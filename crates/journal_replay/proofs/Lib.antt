@@ -5,5 +5,4 @@ pub mod FirstCatalogue
 pub mod Answering
 pub mod Alike
 pub mod Once
-pub mod Reopened
-pub mod Crashed
+pub mod Snapshots

@@ -10,7 +10,7 @@ use Rattle.room_catalog.specs.Changing.{lists_after}
 use Rattle.room_catalog.specs.Held.{CatalogueLists, no_parts}
 use Rattle.room_effects.proofs.Entering.{kind_is}
 use Rattle.room_effects.proofs.StayingJournal.{number_after_change}
-use Rattle.journal_replay.specs.Entries.{Follows, MayStandIn, Replays, lists_behind}
+use Rattle.room_effects.specs.Replaying.{Follows, MayStandIn, Replays, lists_behind}
 
 -- ---- numbers
 

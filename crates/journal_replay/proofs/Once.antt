@@ -11,12 +11,13 @@ use Rattle.catalog_text.specs.Changes.{Stamped}
 use Rattle.room_catalog.specs.Fits.{Fits, FitsParts}
 use Rattle.room_catalog.specs.Held.{CatalogueLists, Parts, catalogue_of, no_parts}
 use Rattle.resource_lists.specs.Lists.{opening_resources}
-use Rattle.room_effects.specs.Reopening.{AreAlike}
-use Rattle.journal_replay.specs.Entries.{Follows, IsStray, Replays, lists_behind}
-use Rattle.journal_replay.specs.Files.{AreDamagedAt, IsDamaged, IsFirst, MeaningIsDamaged, MeaningReplaysTo, ReplayTo, ReplaysTo, StraysAt}
+use Rattle.room_effects.specs.Reopening.{AreAlike, GiveCatalogue, MeansCatalogue}
+use Rattle.room_effects.specs.Replaying.{Follows, Replays, lists_behind}
+use Rattle.room_effects.proofs.Standing.{replays_more}
+use Rattle.journal_replay.specs.Files.{AreDamagedAt, IsDamaged, IsFirst, IsSnapshot, IsStray, MeaningIsDamaged, ReplaysTo, StraysAt}
 use Rattle.journal_replay.proofs.Alike.{alike_after, alike_back, alike_self, alike_then}
 use Rattle.journal_replay.proofs.FirstCatalogue.{one_text}
-use Rattle.journal_replay.proofs.Following.{one_stamped, replays_more}
+use Rattle.journal_replay.proofs.Following.{one_stamped}
 
 -- ---- entries
 
@@ -89,6 +90,9 @@ none_strays form (payload ∷ payloads) (payload' ∷ before) stray more first o
 
 -- ---- contents
 
+abbrev begins_with : (contents : Contents) (lists : CatalogueLists) (gives : GiveCatalogue IsSnapshot contents lists) → IsFirst contents.head.number contents.snapshot gives.first
+begins_with contents lists gives = record { is = gives.snapshot; number_is = gives.number }
+
 -- a snapshot gives one catalogue
 pub one_first : (number : ℕ) (snapshot : List ℕ) (one other : CatalogueLists) → IsFirst number snapshot one → IsFirst number snapshot other → AreAlike one other
 one_first number snapshot one other is also = (one_text snapshot (catalogue_of one) (catalogue_of other) is.is.text also.is.text, is.is.parts ∙ sym also.is.parts)
@@ -102,19 +106,19 @@ one_place contents place other (inr strays) (inr also) =
     (one_first contents.head.number contents.snapshot strays.first also.first strays.begins also.begins) strays.replays also.replays strays.is also.is (sym strays.payloads ∙ also.payloads) in
     strays.placed ∙ ap (λ (payloads : List (List ℕ)). gate_of (contents_of contents.head contents.snapshot payloads)) same ∙ sym also.placed
 
-not_both : (contents : Contents) (lists : CatalogueLists) (place : ℕ) → ReplayTo contents lists → AreDamagedAt contents place → ⊥
-not_both contents lists place replays (inl none) = none.0 replays.first replays.begins
+not_both : (contents : Contents) (lists : CatalogueLists) (place : ℕ) → GiveCatalogue IsSnapshot contents lists → AreDamagedAt contents place → ⊥
+not_both contents lists place replays (inl none) = none.0 replays.first (begins_with contents lists replays)
 not_both contents lists place replays (inr strays) =
     none_strays contents.head.form contents.payloads strays.before strays.stray strays.more replays.first strays.first lists strays.lists
-    (one_first contents.head.number contents.snapshot replays.first strays.first replays.begins strays.begins) replays.replays strays.replays strays.is strays.payloads
+    (one_first contents.head.number contents.snapshot replays.first strays.first (begins_with contents lists replays) strays.begins) replays.replays strays.replays strays.is strays.payloads
 
 -- entries that replay so far go on to, unless they end
 either_behind : (contents : Contents) (first : CatalogueLists) → IsFirst contents.head.number contents.snapshot first
-    → ((lists : CatalogueLists) → ReplayTo contents lists → ⊥) → ((place : ℕ) → StraysAt contents place → ⊥)
+    → ((lists : CatalogueLists) → GiveCatalogue IsSnapshot contents lists → ⊥) → ((place : ℕ) → StraysAt contents place → ⊥)
     → (rest before : List (List ℕ)) (lists : CatalogueLists) → contents.payloads ≡ before ++ rest → Replays contents.head.form before first lists → ⊥
 either_behind contents first begins none sound [] before lists parts replays =
     let R : List (List ℕ) → Type 0 = λ payloads. Replays contents.head.form payloads first lists in
-    none lists (record { first = first; begins = begins; replays = subst R (sym (parts ∙ append-nil before)) replays })
+    none lists (record { first = first; snapshot = begins.is; number = begins.number_is; replays = subst R (sym (parts ∙ append-nil before)) replays })
 either_behind contents first begins none sound (payload ∷ rest) before lists parts replays =
     sound (gate_of (contents_of contents.head contents.snapshot before)) (record {
       first = first;
@@ -147,16 +151,16 @@ opening_lists = record {
   parts = no_parts;
 }
 
-one_of_meaning : (meaning : Meaning) (one other : CatalogueLists) → MeaningReplaysTo meaning one → MeaningReplaysTo meaning other → AreAlike one other
+one_of_meaning : (meaning : Meaning) (one other : CatalogueLists) → MeansCatalogue IsSnapshot meaning one → MeansCatalogue IsSnapshot meaning other → AreAlike one other
 one_of_meaning Unopened one other gives also = (gives.0 ∙ sym also.0, gives.1 ∙ sym also.1)
 one_of_meaning (Damaged file place) one other gives also = absurd gives
 one_of_meaning (Stands file contents) one other gives also =
     replays_alike contents.head.form contents.payloads gives.first also.first one other
-    (one_first contents.head.number contents.snapshot gives.first also.first gives.begins also.begins) gives.replays also.replays
+    (one_first contents.head.number contents.snapshot gives.first also.first (begins_with contents one gives) (begins_with contents other also)) gives.replays also.replays
 
 pub one_catalogue : (files : Image) (one other : CatalogueLists) → ReplaysTo files one → ReplaysTo files other → AreAlike one other
 one_catalogue files one other replays also =
-    let G : Meaning → Type 0 = λ meaning. MeaningReplaysTo meaning one in
+    let G : Meaning → Type 0 = λ meaning. MeansCatalogue IsSnapshot meaning one in
     one_of_meaning also.meaning one other (subst G (one_meaning files replays.meaning also.meaning replays.means also.means) replays.gives) also.gives
 
 damage_of_meaning : (meaning : Meaning) (file other place at : ℕ) → MeaningIsDamaged meaning file place → MeaningIsDamaged meaning other at → (file ≡ other) × (place ≡ at)
@@ -169,14 +173,14 @@ one_damage files file other place at is also =
     let D : Meaning → Type 0 = λ meaning. MeaningIsDamaged meaning file place in
     damage_of_meaning also.meaning file other place at (subst D (one_meaning files is.meaning also.meaning is.means also.means) is.is) also.is
 
-apart_of_meaning : (meaning : Meaning) (lists : CatalogueLists) (file place : ℕ) → MeaningReplaysTo meaning lists → MeaningIsDamaged meaning file place → ⊥
+apart_of_meaning : (meaning : Meaning) (lists : CatalogueLists) (file place : ℕ) → MeansCatalogue IsSnapshot meaning lists → MeaningIsDamaged meaning file place → ⊥
 apart_of_meaning Unopened lists file place gives is = is
 apart_of_meaning (Damaged which at) lists file place gives is = gives
 apart_of_meaning (Stands which contents) lists file place gives is = not_both contents lists place gives is.1
 
 pub never_both : (files : Image) (lists : CatalogueLists) (file place : ℕ) → ReplaysTo files lists → IsDamaged files file place → ⊥
 never_both files lists file place replays is =
-    let G : Meaning → Type 0 = λ meaning. MeaningReplaysTo meaning lists in
+    let G : Meaning → Type 0 = λ meaning. MeansCatalogue IsSnapshot meaning lists in
     apart_of_meaning is.meaning lists file place (subst G (one_meaning files replays.meaning is.meaning replays.means is.means) replays.gives) is.is
 
 none_of_meaning : (files : Image) (meaning : Meaning) → Means files meaning → ((lists : CatalogueLists) → ReplaysTo files lists → ⊥) → ((file place : ℕ) → IsDamaged files file place → ⊥) → ⊥

@@ -1,20 +1,26 @@
 -- What the files of a journal replay to, and where they are damaged.
-use Rattle.std.specs.Prelude.{◌≡◌, ◌⊎◌, ℕ, ◌≤◌, length, take, true, List, ◌∷◌, ◌++◌}
+use Rattle.std.specs.Prelude.{◌≡◌, ◌⊎◌, ℕ, true, List, ◌∷◌, ◌++◌}
 use Rattle.room_disk.specs.Disk.{Image}
 use Rattle.cat_journal.specs.Contents.{Contents, contents_of, gate_of}
 use Rattle.cat_journal.specs.Meaning.{Meaning, Means, Unopened, Damaged, Stands}
 use Rattle.catalog_text.specs.Changes.{Stamped}
 use Rattle.snapshot_reading.specs.Spelled.{IsText}
-use Rattle.room_catalog.specs.Held.{CatalogueLists, catalogue_of, no_parts, opening_catalogue}
-use Rattle.room_effects.specs.Running.{catalogue_behind}
-use Rattle.journal_replay.specs.Entries.{IsStray, Replays}
+use Rattle.room_catalog.specs.Held.{CatalogueLists, catalogue_of, no_parts}
+use Rattle.room_effects.specs.Replaying.{Follows, Replays}
+use Rattle.room_effects.specs.Reopening.{Reopens}
 
--- ---- the catalogue of a snapshot
+-- ---- what files replay to
 
 -- the bytes are the snapshot of this catalogue, with its indexes, and no part waits in it
 pub record IsSnapshot (lists : CatalogueLists) (bytes : List ℕ) : Type 0 where
   pub text : IsText true bytes (catalogue_of lists)
   pub parts : lists.parts ≡ no_parts
+
+-- the files replay to these lists
+abbrev pub ReplaysTo : Image → CatalogueLists → Type 0
+ReplaysTo files lists = Reopens IsSnapshot files lists
+
+-- ---- the catalogue of a snapshot
 
 -- a snapshot under a head with this number gives this catalogue
 pub record IsFirst (number : ℕ) (snapshot : List ℕ) (first : CatalogueLists) : Type 0 where
@@ -25,37 +31,16 @@ pub record IsFirst (number : ℕ) (snapshot : List ℕ) (first : CatalogueLists)
 abbrev pub GivesNone : ℕ → List ℕ → Type 0
 GivesNone number snapshot = (first : CatalogueLists) → ¬ IsFirst number snapshot first
 
--- the contents of a file begin with this catalogue
-abbrev pub BeginsWith : Contents → CatalogueLists → Type 0
-BeginsWith contents first = IsFirst contents.head.number contents.snapshot first
+-- ---- where files are damaged
 
--- ---- what files replay to
-
--- the entries behind a snapshot replay to these lists
-pub record ReplayTo (contents : Contents) (lists : CatalogueLists) : Type 0 where
-  pub first : CatalogueLists
-  pub begins : BeginsWith contents first
-  pub replays : Replays contents.head.form contents.payloads first lists
-
--- where no file is open, the opening catalogue stands
-abbrev pub MeaningReplaysTo : Meaning → CatalogueLists → Type 0
-MeaningReplaysTo Unopened lists =
-    (catalogue_of lists ≡ opening_catalogue) × (lists.parts ≡ no_parts)
-MeaningReplaysTo (Damaged file place) lists = ⊥
-MeaningReplaysTo (Stands file contents) lists = ReplayTo contents lists
-
--- the files replay to these lists
-pub record ReplaysTo (files : Image) (lists : CatalogueLists) : Type 0 where
-  pub meaning : Meaning
-  pub means : Means files meaning
-  pub gives : MeaningReplaysTo meaning lists
-
--- ---- where they are damaged
+-- behind entries that left these lists, in a file of this form, an entry tells no change
+abbrev pub IsStray : ℕ → List ℕ → CatalogueLists → Type 0
+IsStray form payload lists = (one : Stamped) → ¬ Follows form payload lists one
 
 -- the entries before one replay, it tells no change behind them, and its gate stands at this place
 pub record StraysAt (contents : Contents) (place : ℕ) : Type 0 where
   pub first : CatalogueLists
-  pub begins : BeginsWith contents first
+  pub begins : IsFirst contents.head.number contents.snapshot first
   pub before : List (List ℕ)
   pub stray : List ℕ
   pub more : List (List ℕ)
@@ -82,11 +67,3 @@ pub record IsDamaged (files : Image) (file place : ℕ) : Type 0 where
   pub meaning : Meaning
   pub means : Means files meaning
   pub is : MeaningIsDamaged meaning file place
-
--- ---- behind a crash
-
--- the catalogue after the first so many of these changes; whatever parts of an index wait then
-pub record IsAfterSome (changes : List Stamped) (before lists : CatalogueLists) : Type 0 where
-  pub count : ℕ
-  pub within : count ≤ length changes
-  pub is : catalogue_of lists ≡ catalogue_of (catalogue_behind (take count changes) before)

@@ -2,8 +2,8 @@
 
 ghost use Rattle.std.specs.Prelude.{◌≡◌, ◌↔◌, IsTrue};
 ghost use Rattle.catalog_change.specs.Changes.{IsChange};
+ghost use Rattle.room_effects.specs.Replaying.{MayFollow, MayStandIn};
 ghost use Rattle.journal_replay.specs.Answers.{ReplaysEntries, TellsChange};
-ghost use Rattle.journal_replay.specs.Entries.{MayFollow, MayStandIn};
 
 use crate::fault::ReplayFault;
 use cat_journal::Entry;

@@ -10,8 +10,7 @@ mod replaying;
 mod snapshot;
 
 pub use fault::ReplayFault;
-pub use laws::{crashed_files_replay, files_replay_as_one, replayed_files_reopen};
+pub use laws::{
+    files_replay_as_one, files_replay_as_the_catalogue, images_replay_as_the_catalogue,
+};
 pub use replaying::{Replayed, replay};
-
-#[cfg(test)]
-mod tests;

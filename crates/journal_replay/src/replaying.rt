@@ -20,7 +20,7 @@ use room_disk::Store;
 use std::alloc::Global;
 
 /// A journal that stands behind its last entry, and the catalogue behind it.
-#[derive(Debug, Drop)]
+#[derive(Drop)]
 pub struct Replayed {
     pub journal: Journal,
     pub catalogue: Catalogue,

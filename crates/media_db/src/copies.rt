@@ -4,7 +4,7 @@ use room_base::{CopyNo, Items, Memory, Volid};
 use std::alloc::Global;
 
 /// A run of a save set's stream in one file of a volume.
-#[derive(Clone, Copy, Debug, PartialEq, Eq)]
+#[derive(Clone, Copy, PartialEq, Eq)]
 pub struct Section {
     pub volid: Volid,
     /// The block of the file's mark.
@@ -17,7 +17,7 @@ pub struct Section {
     pub to: u64,
 }
 
-#[derive(Clone, Copy, Debug, PartialEq, Eq)]
+#[derive(Clone, Copy, PartialEq, Eq)]
 pub enum CopyState {
     /// Its bytes are being written, or were not all written.
     Begun,
@@ -26,7 +26,7 @@ pub enum CopyState {
 }
 
 /// A copy of a save set, with the sections that it lies in once it is done.
-#[derive(Debug, PartialEq, Drop)]
+#[derive(Drop)]
 pub struct SetCopy {
     pub no: CopyNo,
     pub state: CopyState,

@@ -18,7 +18,7 @@ use std::marker::Model;
 
 /// The records of save sets and of volumes. Contracts see the two lists, in the order of their
 /// numbers, and how many more of each can be put without taking memory.
-#[derive(Debug, Drop)]
+#[derive(Drop)]
 pub struct MediaDb {
     records: Vec<Record>,
     volumes: Vec<VolumeRec>,

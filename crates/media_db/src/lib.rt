@@ -21,6 +21,3 @@ pub use laws::{
 };
 pub use records::{Record, RecordState};
 pub use volumes::VolumeRec;
-
-#[cfg(test)]
-mod tests;

@@ -5,7 +5,7 @@ use crate::copies::copies_of;
 use room_base::{Items, Memory, Moment, Name, Ssid};
 use save_stream::Level;
 
-#[derive(Clone, Copy, Debug, PartialEq, Eq)]
+#[derive(Clone, Copy, PartialEq, Eq)]
 pub enum RecordState {
     /// The save goes on, or was cut off.
     Begun,
@@ -16,7 +16,7 @@ pub enum RecordState {
 }
 
 /// What is known of a save set.
-#[derive(Debug, PartialEq, Drop)]
+#[derive(Drop)]
 pub struct Record {
     pub ssid: Ssid,
     pub client: Name,

@@ -3,7 +3,7 @@ ghost use Rattle.std.specs.Prelude.{◌≡◌, IfOk};
 use room_base::{Cart, Memory, Name, Volid};
 
 /// What is known of a volume.
-#[derive(Debug, PartialEq, Drop)]
+#[derive(Drop)]
 pub struct VolumeRec {
     pub volid: Volid,
     /// The cartridge that it lies on.

@@ -7,7 +7,7 @@ ghost use Rattle.resource_lists.specs.Counts.{AreBelow, counted, with_one};
 use catalog_change::Resource;
 
 /// A number for each kind of resource.
-#[derive(Clone, Copy, Debug)]
+#[derive(Clone, Copy)]
 pub struct KindCounts {
     pub policies: usize,
     pub pools: usize,

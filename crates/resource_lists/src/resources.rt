@@ -26,7 +26,7 @@ use std::marker::Model;
 pub(crate) const ROOM_CLIENT: &str = "room";
 
 /// The resources of a catalogue.
-#[derive(Debug, Drop)]
+#[derive(Drop)]
 pub struct Resources {
     policies: Vec<Policy>,
     pools: Vec<Pool>,

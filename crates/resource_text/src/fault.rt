@@ -2,7 +2,7 @@ use room_base::Name;
 use std::alloc::{AllocError, AllocFailed};
 
 /// Why a text of resources wasn't taken.
-#[derive(Debug, PartialEq, Drop)]
+#[derive(Drop)]
 pub enum TextFault {
     /// A field has the wrong form, or isn't known. It is `text` where the text is no TOML, and
     /// `key` where an unknown key is no name of at most 64 bytes.

@@ -16,6 +16,3 @@ mod words;
 
 pub use document::read_resources;
 pub use fault::TextFault;
-
-#[cfg(test)]
-mod tests;

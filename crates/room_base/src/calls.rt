@@ -5,7 +5,7 @@ ghost use Rattle.room_base.specs.Calls.{FailsNext, called};
 use std::marker::Model;
 
 /// Counts the calls of an object in memory, and knows which of them are to fail.
-#[derive(Debug, Drop)]
+#[derive(Drop)]
 pub struct CallCount {
     failing: Vec<u64>,
     made: u64,

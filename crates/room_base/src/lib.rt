@@ -46,6 +46,3 @@ pub use source::Source;
 pub use std_sink::StdSink;
 pub use std_source::StdSource;
 pub use text::{MAX_PATH, name_text, path_text};
-
-#[cfg(test)]
-mod tests;

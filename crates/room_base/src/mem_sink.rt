@@ -10,7 +10,7 @@ use std::marker::Model;
 
 /// A sink in memory, whose listed calls fail. A piece for which it finds no memory is a fault of it
 /// too, which `short` counts apart.
-#[derive(Debug, Drop)]
+#[derive(Drop)]
 pub struct MemSink {
     bytes: Vec<u8>,
     calls: CallCount,

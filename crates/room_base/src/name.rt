@@ -33,7 +33,7 @@ impl From<AllocError> for NameFault {
 }
 
 /// A text that contracts see as its bytes. It is UTF-8.
-#[derive(Debug, Drop)]
+#[derive(Drop)]
 pub struct Name {
     text: String,
 }

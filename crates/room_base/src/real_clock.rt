@@ -8,7 +8,7 @@ use std::time::{SystemTime, UNIX_EPOCH};
 
 /// The system's clock. It tells nothing of its moments. A system whose clock stands before 1970
 /// has no time, and that is a fault of it.
-#[derive(Debug, Drop)]
+#[derive(Drop)]
 pub struct RealClock<R: rt::Clock> {
     system: R,
     faults: u64,

@@ -2,7 +2,7 @@ use crate::{Cart, Items, Name, Ssid, Volid};
 
 /// Why the room doesn't do what it was asked. Each has a number, from 1 to 32 in this order, by
 /// which scripts know it. docs/definitions.md says when each comes.
-#[derive(Debug, PartialEq, Drop)]
+#[derive(Drop)]
 pub enum Refusal {
     /// A field has the wrong form, or is out of range.
     Malformed { field: Name },

@@ -9,7 +9,7 @@ use std::marker::Model;
 
 /// A clock that gives the moments of a list in turn, the last one again and again. Its listed calls
 /// fail.
-#[derive(Debug, Drop)]
+#[derive(Drop)]
 pub struct SetClock {
     moments: Vec<Moment>,
     at: usize,

@@ -11,7 +11,7 @@ const TRIES: u32 = 64;
 
 /// A writer of the system as a sink, such as standard output. It tells nothing of its bytes, and
 /// keeps none back: a writer that does so is to be flushed by its owner.
-#[derive(Debug, Drop)]
+#[derive(Drop)]
 pub struct StdSink<W: Write> {
     writer: W,
     faults: u64,

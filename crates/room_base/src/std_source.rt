@@ -10,7 +10,7 @@ use std::io::{ErrorKind, Read};
 const TRIES: u32 = 64;
 
 /// A reader of the system as a source, such as standard input. It tells nothing of its bytes.
-#[derive(Debug, Drop)]
+#[derive(Drop)]
 pub struct StdSource<R: Read> {
     reader: R,
     faults: u64,

@@ -1,6 +1,6 @@
 //! The catalogue of a room.
 
-ghost use Rattle.std.specs.Prelude.{◌≡◌, ◌+◌, ◌≤◌, ◌↔◌, IfOk, OnOk, IsTrue, option_copied};
+ghost use Rattle.std.specs.Prelude.{◌≡◌, ◌+◌, ◌<◌, ◌≤◌, ◌↔◌, IfOk, OnOk, IsTrue, option_copied};
 ghost use Rattle.std.specs.Prelude.{option_map};
 ghost use Rattle.room_base.specs.Numbers.{max_moment};
 ghost use Rattle.catalog_change.specs.Catalogues.{IsCatalogue};
@@ -31,7 +31,7 @@ use std::alloc::Global;
 use std::marker::Model;
 
 /// The catalogue of a room. Contracts see what it holds, as lists, and what it has room for.
-#[derive(Debug, Drop)]
+#[derive(Drop)]
 pub struct Catalogue {
     pub(crate) kept: Kept,
 }
@@ -246,6 +246,17 @@ impl Catalogue {
         ensures room { KeepsRoom self.old.room self.new.room }
     {
         self.kept.make_room(change)
+    }
+
+    /// Takes the memory for an index that isn't at hand yet: for the change that closes a save, and,
+    /// where the index comes in parts, for so many entries.
+    pub fn prepare_index(&mut self, entries: u32) -> Result<(), Memory>
+        ensures ready { OnOk result (0 < self.new.room.indexes) }
+        ensures entries { OnOk result (entries ≤ self.new.room.entries) }
+        ensures lists { self.new.lists ≡ self.old.lists }
+        ensures room { KeepsRoom self.old.room self.new.room }
+    {
+        self.kept.make_room_for_index(entries)
     }
 
     /// Applies a change that fits and was prepared. It can't fail, and takes no memory.

@@ -9,7 +9,7 @@ use std::marker::Model;
 use std::mem;
 
 /// An empty list with room for copies. Contracts see how many it has room for.
-#[derive(Debug, Drop)]
+#[derive(Drop)]
 pub(crate) struct CopyRoom {
     list: Vec<SetCopy>,
 }

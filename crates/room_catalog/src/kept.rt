@@ -20,7 +20,7 @@ use resource_lists::Resources;
 use room_base::{Moment, Ssid, Volid};
 
 /// Everything that a catalogue keeps.
-#[derive(Debug, Drop)]
+#[derive(Drop)]
 pub(crate) struct Kept {
     pub(crate) number: u64,
     pub(crate) last_moment: Moment,

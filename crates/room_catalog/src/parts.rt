@@ -18,7 +18,7 @@ use std::mem;
 pub(crate) const MAX_PART: u64 = 10_000;
 
 /// The parts of one set that wait, joined. The list keeps its room when they are dropped.
-#[derive(Debug, Drop)]
+#[derive(Drop)]
 pub(crate) struct PendingParts {
     ssid: Ssid,
     count: u64,

@@ -1,6 +1,6 @@
 //! Room for changes that will be applied.
 
-ghost use Rattle.std.specs.Prelude.{◌≡◌, ◌+◌, OnOk};
+ghost use Rattle.std.specs.Prelude.{◌≡◌, ◌+◌, ◌<◌, ◌≤◌, OnOk};
 ghost use Rattle.catalog_change.specs.Catalogues.{IsCatalogue};
 ghost use Rattle.catalog_change.specs.Changes.{IsChange, IsCount};
 ghost use Rattle.room_catalog.specs.Held.{catalogue_of};
@@ -55,6 +55,17 @@ impl Kept {
             | Change::Purged { .. }
             | Change::CopyDone { .. } => Ok(()),
         }
+    }
+
+    /// Makes room for an index, and for so many entries of its parts.
+    pub(crate) fn make_room_for_index(&mut self, entries: u32) -> Result<(), Memory>
+        ensures ready { OnOk result (0 < (held_of self.new).room.indexes) }
+        ensures entries { OnOk result (entries ≤ (held_of self.new).room.entries) }
+        ensures lists { (held_of self.new).lists ≡ (held_of self.old).lists }
+        ensures room { KeepsRoom (held_of self.old).room (held_of self.new).room }
+    {
+        self.index.reserve()?;
+        self.parts.reserve(entries as usize)
     }
 }
 

@@ -4,7 +4,7 @@ use room_rules::Planned;
 use save_stream::Level;
 
 /// A slot that is filled. The drive and the volume are 0 where there is none.
-#[derive(Clone, Copy, Debug, PartialEq, Eq)]
+#[derive(Clone, Copy, PartialEq, Eq)]
 pub struct SlotLine {
     pub cart: Cart,
     pub drive: u8,
@@ -13,7 +13,7 @@ pub struct SlotLine {
 }
 
 /// What a command answers that was done.
-#[derive(Debug, PartialEq, Drop)]
+#[derive(Drop)]
 pub enum Answer {
     /// So many resources were added.
     Defined {

@@ -3,7 +3,7 @@ use room_base::{Cart, Items, Name, Ssid};
 use room_rules::Action;
 
 /// What a room can be asked to do.
-#[derive(Debug, PartialEq, Drop)]
+#[derive(Drop)]
 pub enum Command {
     /// Adds the resources of a text.
     Define {

@@ -2,7 +2,7 @@ use crate::Answer;
 use room_base::Refusal;
 
 /// What a command comes to.
-#[derive(Debug, PartialEq, Drop)]
+#[derive(Drop)]
 pub enum Reply {
     /// It was done.
     Done(Answer),

@@ -1,7 +1,7 @@
 use room_base::Items;
 
 /// A call that changed what a disk reads or what a crash may leave of it.
-#[derive(Debug, Drop)]
+#[derive(Drop)]
 pub enum DiskEvent {
     Written {
         file: u32,

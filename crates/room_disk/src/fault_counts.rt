@@ -11,7 +11,7 @@ const FILES: usize = 258;
 
 /// How often calls on each file have failed. Files from 258 on share one count, so that none needs
 /// memory.
-#[derive(Debug, Drop)]
+#[derive(Drop)]
 pub struct FaultCounts {
     counts: [u64; FILES + 1],
 }

@@ -12,7 +12,7 @@ const SPOILED: u8 = 0xFF;
 
 /// A file's bytes. They stand at the front of room that is never given back, so that only `grow`
 /// takes memory.
-#[derive(Debug, Drop)]
+#[derive(Drop)]
 pub struct FileBytes {
     held: Vec<u8>,
     len: usize,

@@ -2,14 +2,14 @@ use std::fs::File;
 use std::rt::Files;
 
 /// What a program does with a folder.
-#[derive(Clone, Copy, Debug)]
+#[derive(Clone, Copy)]
 pub enum Access {
     Reads,
     Writes,
 }
 
 /// Why a folder wasn't locked.
-#[derive(Clone, Copy, Debug, Drop)]
+#[derive(Clone, Copy, Drop)]
 pub enum LockFault {
     /// Another program has it, or the system gives no locks on it.
     InUse,

@@ -14,7 +14,7 @@ use std::marker::Model;
 
 /// What a store in memory has recorded: its files at first, and each call that changed something.
 /// Each file's bytes are kept beside it, so that a read needs no replay.
-#[derive(Debug, Drop)]
+#[derive(Drop)]
 pub struct History {
     alloc: Global,
     files: Vec<MemFile>,

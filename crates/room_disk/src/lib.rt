@@ -34,8 +34,3 @@ pub use mem_folder::{MemFolder, MemHandle};
 pub use mem_store::MemStore;
 pub use store::Store;
 pub use system_folder::SystemFolder;
-
-#[cfg(test)]
-mod folder_tests;
-#[cfg(test)]
-mod tests;

@@ -7,7 +7,7 @@ use room_base::Memory;
 use std::alloc::Global;
 
 /// A file of a store in memory: what it read at first, and what it reads now.
-#[derive(Debug, Drop)]
+#[derive(Drop)]
 pub struct MemFile {
     pub number: u32,
     pub first: FileBytes,

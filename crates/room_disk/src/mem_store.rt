@@ -20,7 +20,7 @@ use std::marker::Model;
 
 /// A disk in memory. Its listed calls fail, and it can stop for good. A call for which it finds no
 /// memory is a fault of its file too, which `short` counts apart.
-#[derive(Debug, Drop)]
+#[derive(Drop)]
 pub struct MemStore {
     past: History,
     calls: CallCount,

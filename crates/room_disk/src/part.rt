@@ -2,7 +2,7 @@ ghost use Rattle.std.specs.Prelude.{◌≡◌, ◌<◌};
 ghost use Rattle.room_disk.specs.Crashed.{part_of};
 
 /// What a crash has done of each write and cut that was made since the last sync of its file.
-#[derive(Clone, Copy, Debug)]
+#[derive(Clone, Copy)]
 pub enum Part {
     Nothing,
     All,

@@ -1,6 +1,6 @@
 -- What each effect makes of the catalogue that the journal's files reopen as.
 use Rattle.std.proofs.Common.{◌≡◌, ◌≢◌, ℕ, ◌+◌, ◌-◌, ◌≤◌, Bool, true, false, if◌then◌else◌, List, [], length, refl, sym, ap, ◌∙◌, subst, arith, inl, inr}
-use Rattle.std.specs.Prelude.{Option, Some, None}
+use Rattle.std.specs.Prelude.{◌⊎◌, Option, Some, None}
 use Rattle.room_base.specs.declared.numbers.Moment.{Moment}
 use Rattle.room_base.specs.declared.numbers.Ssid.{Ssid}
 use Rattle.room_disk.specs.Crash.{AnewTorn, IsAnew}
@@ -15,23 +15,24 @@ use Rattle.cat_journal.proofs.OneMeaning.{one_current, one_front, one_meaning}
 use Rattle.cat_journal.proofs.Standing.{current_holds, file_is, front_of_held, knows_behind, stands_with}
 use Rattle.cat_journal.proofs.Turning.{knows_new, turned, turned_whole}
 use Rattle.catalog_change.specs.declared.change.Change.{Change}
-use Rattle.catalog_change.specs.declared.change.Change.TheVariants.{Defined, Dropped, Loaded, Ejected, Labelled, Begun, Finished, Aborted, Amended, Deleted, Purged, CopyBegun, CopyDone, IndexPart, FinishedParts}
-use Rattle.catalog_text.specs.Changes.{Stamped}
+use Rattle.catalog_change.specs.declared.change.Change.TheVariants.{IndexPart, FinishedParts}
+use Rattle.catalog_text.specs.Changes.{Stamped, change_text}
 use Rattle.catalog_text.specs.Decoding.{IsStamped}
-use Rattle.room_catalog.specs.Held.{CatalogueLists}
+use Rattle.room_catalog.specs.Fits.{AreParts, FitsParts}
+use Rattle.room_catalog.specs.Held.{CatalogueLists, Parts, no_parts}
 use Rattle.room_effects.specs.View.{RoomView}
 use Rattle.room_effects.specs.Effects.{Broken, Enter, EnterPart, TurnOver, after_done, entry_bytes}
 use Rattle.room_effects.specs.Effects.{is_at_last, part_bytes, turned as turned_by}
-use Rattle.room_catalog.specs.Changing.{catalogue_after, with_part_waiting, without_parts}
+use Rattle.room_catalog.specs.Changing.{catalogue_after, lists_after, with_part_waiting, without_parts}
 use Rattle.room_effects.specs.Files.{MayTurnOver, Torn, Touches, TurnsOver, Whole, file_or_none, target}
-use Rattle.room_effects.specs.Needs.{CanDo, IsWholeChange}
+use Rattle.room_effects.specs.Needs.{CanDo, IsFitting, IsWholeChange}
 use Rattle.room_effects.specs.Running.{entered}
 use Rattle.room_effects.specs.Reopening.{GiveCatalogue, HasItsSnapshot, Reopens, ReopensAfterSome}
-use Rattle.room_effects.specs.Reopening.{behind_told}
+use Rattle.room_effects.specs.Replaying.{Follows, MayStandIn}
 use Rattle.room_effects.proofs.Changing.{after_indexed}
 use Rattle.room_effects.proofs.Entering.{entry_is_part, entry_is_whole, last_is_not, turned_last, turned_on, turned_room}
-use Rattle.room_effects.proofs.Journals.{next_in_range, next_is}
-use Rattle.room_effects.proofs.Standing.{HasKnownContents, KeepsJournal, StandsAs, gives_more, known_contents, reopens_as, reopens_kept, same_file, same_range, stand_on, stands_kept}
+use Rattle.room_effects.proofs.Journals.{HasRange, next_in_range, next_is}
+use Rattle.room_effects.proofs.Standing.{HasKnownContents, KeepsJournal, StandsAs, form_at, gives_more, known_contents, reopens_as, reopens_kept, same_file, same_form, same_range, stand_on, stands_kept}
 use Rattle.room_effects.proofs.StayingJournal.{number_after_change}
 
 -- none of the changes is there
@@ -42,22 +43,36 @@ reopens_before IsSnapshot changes lists image reopens = record { count = 0; with
 -- ---- one entry more
 
 -- a change that isn't a part is told as itself
-told_whole : (m : Moment) (change : Change) (lists : CatalogueLists) → IsWholeChange change → behind_told m.0 change lists ≡ catalogue_after m change lists
-told_whole m (Defined resources) lists whole = refl
-told_whole m (Dropped kind name) lists whole = refl
-told_whole m (Loaded slot cart) lists whole = refl
-told_whole m (Ejected slot) lists whole = refl
-told_whole m (Labelled volid cart pool capacity was) lists whole = refl
-told_whole m (Begun head) lists whole = refl
-told_whole m (Finished ssid files bytes digest sections index) lists whole = refl
-told_whole m (Aborted ssid) lists whole = refl
-told_whole m (Amended ssid browse retain hold) lists whole = refl
-told_whole m (Deleted ssid) lists whole = refl
-told_whole m (Purged ssids) lists whole = refl
-told_whole m (CopyBegun ssid copy) lists whole = refl
-told_whole m (CopyDone ssid copy sections removed) lists whole = refl
+told_whole : (m : Moment) (change : Change) (lists : CatalogueLists) → IsWholeChange change → lists_after m change lists ≡ catalogue_after m change lists
 told_whole m (IndexPart ssid part index) lists whole = absurd whole
-told_whole m (FinishedParts ssid files bytes digest sections) lists whole = refl
+told_whole m change lists whole = refl
+
+-- a file has one of the two forms
+one_form : (current : Option CurrentFile) → HasRange current → (form_of current ≡ 1) ⊎ (form_of current ≡ 2)
+one_form None range = inr refl
+one_form (Some current) range = elim range.0 [ inl first ↦ inl first.0 | inr second ↦ inr second.0 ]
+
+-- parts are closed only where some wait, as they do in no file of form 1
+may_close : (form : ℕ) (parts : Parts) (ssid files : ℕ) → (form ≡ 1) ⊎ (form ≡ 2) → (form ≡ 1 → parts ≡ no_parts) → AreParts parts ssid files → form ≡ 2
+may_close form parts ssid files (inl first) bare are = absurd (omega (arith, are.some, ap (λ (all : Parts). all.count) (bare first)))
+may_close form parts ssid files (inr second) bare are = second
+
+may_stand : (form : ℕ) (parts : Parts) (change : Change) → (form ≡ 1) ⊎ (form ≡ 2) → (form ≡ 1 → parts ≡ no_parts) → IsWholeChange change → FitsParts parts change → MayStandIn form change
+may_stand form parts (IndexPart ssid part index) is bare whole fits = absurd whole
+may_stand form parts (FinishedParts ssid files bytes digest sections) is bare whole fits = may_close form parts ssid.0 files is bare fits
+may_stand form parts change is bare whole fits = tt
+
+abbrev stamp : Moment → Change → Stamped
+stamp m change = record { moment = m.0; change = change }
+
+-- the entry of a change or of a part follows those of the file
+follows_at : (IsSnapshot : CatalogueLists → List ℕ → Type 0) (m : Moment) (change : Change) (room : RoomView) (before : Image)
+    (has : HasKnownContents IsSnapshot room.journal.current room.journal.last room.catalogue before) → IsStamped m.0 change → MayStandIn (form_of room.journal.current) change
+    → IsFitting change room → Follows has.contents.head.form (change_text m.0 change) room.catalogue (stamp m change)
+follows_at IsSnapshot m change room before has written may fitting =
+    let F : ℕ → Type 0 = λ form. Follows form (change_text m.0 change) room.catalogue (stamp m change) in
+    subst F (form_at room.journal.current room.journal.last has.contents has.at)
+    (record { text = record { is = written; text = refl }; may = record { stands = may; fits = fitting.fits; parts = fitting.parts_fit } })
 
 -- the other file of the two
 other_is_other : (file : ℕ) → file ≤ 1 → 1 - file ≢ file
@@ -102,6 +117,8 @@ enter_stands IsSnapshot m change room before image can written touched stands =
     let current = journal.current in
     let payload = entry_bytes m change in
     let has = known_contents IsSnapshot room before can.needs.entry.file stands in
+    let follows = follows_at IsSnapshot m change room before has written
+    (may_stand (form_of current) room.catalogue.parts change (one_form current stands.range) stands.bare can.needs.whole can.needs.fitting.parts_fit) can.needs.fitting in
     let held = touched.this has.contents has.at (current_holds before (file_of current) has.contents has.means) in
     let means = stands_more IsSnapshot current journal.last room.catalogue payload before image has touched.others held in
     let G : CatalogueLists → Type 0 = λ lists. GiveCatalogue IsSnapshot (with_payload has.contents payload) lists in
@@ -110,10 +127,11 @@ enter_stands IsSnapshot m change room before image can written touched stands =
       bound = omega (arith, stands.number, can.needs.fitting.fits.0);
       range = same_range current (length payload) stands.range;
       drives = stands.drives;
+      bare = λ first. refl;
       knows = knows_behind_one current journal.last (journal.last + 1) has.contents payload image has.at
           (number_change (form_of current) journal.last payload (entry_is_whole journal m change can.needs.whole)) means;
       reopens = reopens_as IsSnapshot image (file_of current) (with_payload has.contents payload) (catalogue_after m change room.catalogue) means
-          (subst G (told_whole m change room.catalogue can.needs.whole) (gives_more IsSnapshot has.contents room.catalogue m.0 change written has.gives));
+          (subst G (told_whole m change room.catalogue can.needs.whole) (gives_more IsSnapshot has.contents room.catalogue payload (stamp m change) follows has.gives));
     }
 
 pub enter_cut : (IsSnapshot : CatalogueLists → List ℕ → Type 0) (m : Moment) (change : Change) (room : RoomView) (before image : Image) → CanDo (Enter m change) room → IsStamped m.0 change
@@ -124,6 +142,8 @@ enter_cut IsSnapshot m change room before image can written touched stands =
     let current = journal.current in
     let payload = entry_bytes m change in
     let has = known_contents IsSnapshot room before can.needs.entry.file stands in
+    let follows = follows_at IsSnapshot m change room before has written
+    (may_stand (form_of current) room.catalogue.parts change (one_form current stands.range) stands.bare can.needs.whole can.needs.fitting.parts_fit) can.needs.fitting in
     let G : CatalogueLists → Type 0 = λ lists. GiveCatalogue IsSnapshot (with_payload has.contents payload) lists in
     elim (touched.this has.contents has.at (current_holds before (file_of current) has.contents has.means)) [
       | inl kept ↦ reopens_before IsSnapshot (entered (Broken (Enter m change)) room) room.catalogue image
@@ -135,7 +155,7 @@ enter_cut IsSnapshot m change room before image can written touched stands =
         reopened = catalogue_after m change room.catalogue;
         reopens = reopens_as IsSnapshot image (file_of current) (with_payload has.contents payload) (catalogue_after m change room.catalogue)
             (stands_more IsSnapshot current journal.last room.catalogue payload before image has touched.others more)
-            (subst G (told_whole m change room.catalogue can.needs.whole) (gives_more IsSnapshot has.contents room.catalogue m.0 change written has.gives));
+            (subst G (told_whole m change room.catalogue can.needs.whole) (gives_more IsSnapshot has.contents room.catalogue payload (stamp m change) follows has.gives));
         is = ap without_parts (sym (after_indexed m change room.catalogue));
       }
     ]
@@ -151,6 +171,7 @@ part_stands IsSnapshot m ssid part index room before image can written touched s
     let current = journal.current in
     let payload = part_bytes m ssid part index in
     let has = known_contents IsSnapshot room before can.needs.entry.file stands in
+    let follows = follows_at IsSnapshot m (IndexPart ssid part index) room before has written can.needs.form can.needs.fitting in
     let held = touched.this has.contents has.at (current_holds before (file_of current) has.contents has.means) in
     let means = stands_more IsSnapshot current journal.last room.catalogue payload before image has touched.others held in
     record {
@@ -158,10 +179,11 @@ part_stands IsSnapshot m ssid part index room before image can written touched s
       bound = stands.bound;
       range = same_range current (length payload) stands.range;
       drives = stands.drives;
+      bare = λ first. absurd (omega (arith, sym (same_form current (length payload)) ∙ first, can.needs.form));
       knows = knows_behind_one current journal.last journal.last has.contents payload image has.at
           (number_part (form_of current) journal.last payload (entry_is_part journal m ssid part index can.needs.form)) means;
       reopens = reopens_as IsSnapshot image (file_of current) (with_payload has.contents payload) (with_part_waiting ssid part index room.catalogue) means
-          (gives_more IsSnapshot has.contents room.catalogue m.0 (IndexPart ssid part index) written has.gives);
+          (gives_more IsSnapshot has.contents room.catalogue payload (stamp m (IndexPart ssid part index)) follows has.gives);
     }
 
 pub part_cut : (IsSnapshot : CatalogueLists → List ℕ → Type 0) (m : Moment) (ssid : Ssid) (part : ℕ) (index : List IndexEntry) (room : RoomView) (before image : Image)
@@ -173,6 +195,7 @@ part_cut IsSnapshot m ssid part index room before image can written touched stan
     let current = journal.current in
     let payload = part_bytes m ssid part index in
     let has = known_contents IsSnapshot room before can.needs.entry.file stands in
+    let follows = follows_at IsSnapshot m (IndexPart ssid part index) room before has written can.needs.form can.needs.fitting in
     elim (touched.this has.contents has.at (current_holds before (file_of current) has.contents has.means)) [
       | inl kept ↦ reopens_before IsSnapshot [] room.catalogue image
           (reopens_as IsSnapshot image (file_of current) has.contents room.catalogue
@@ -183,7 +206,7 @@ part_cut IsSnapshot m ssid part index room before image can written touched stan
         reopened = with_part_waiting ssid part index room.catalogue;
         reopens = reopens_as IsSnapshot image (file_of current) (with_payload has.contents payload) (with_part_waiting ssid part index room.catalogue)
             (stands_more IsSnapshot current journal.last room.catalogue payload before image has touched.others more)
-            (gives_more IsSnapshot has.contents room.catalogue m.0 (IndexPart ssid part index) written has.gives);
+            (gives_more IsSnapshot has.contents room.catalogue payload (stamp m (IndexPart ssid part index)) follows has.gives);
         is = refl;
       }
     ]
@@ -229,7 +252,7 @@ turn_allowed IsSnapshot snapshot room files can stands next =
     let range = next_in_range room.journal.current stands.range (last_is_not room.journal next) in
     record {
       fields = record { form = inr (refl, range.1); first = range.0; number = omega (arith, stands.bound) };
-      size = omega (arith, can.needs);
+      size = omega (arith, can.needs.place);
     }
 
 -- the snapshot alone gives the catalogue without parts
@@ -240,9 +263,7 @@ gives_snapshot IsSnapshot snapshot room files stands spelled = record {
   first = without_parts room.catalogue;
   snapshot = spelled;
   number = sym stands.number;
-  entries = [];
-  texts = tt;
-  is = refl;
+  replays = refl;
 }
 
 turned_stands : (IsSnapshot : CatalogueLists → List ℕ → Type 0) (snapshot : List ℕ) (room : RoomView) (before image : Image) → CanDo (TurnOver snapshot) room
@@ -261,6 +282,7 @@ turned_stands IsSnapshot snapshot room before image can next touched spelled sta
       bound = stands.bound;
       range = (inr (refl, range.1), range.0);
       drives = stands.drives;
+      bare = λ first. refl;
       knows = (contents, knows_new file (next_generation journal.current) journal.last snapshot, means);
       reopens = reopens_as IsSnapshot image file contents (without_parts room.catalogue) means (gives_snapshot IsSnapshot snapshot room before stands spelled);
     }

@@ -142,7 +142,7 @@ turned_alike size room =
     (λ last. refl) (λ next. refl)
 
 -- the catalogue behind what an effect entered is the room's, but for parts
-done_catalogue : (effect : Effect) (room : RoomView) → without_parts (after_done effect room).catalogue ≡ without_parts (catalogue_behind (entered (Done effect) room) room.catalogue)
+pub done_catalogue : (effect : Effect) (room : RoomView) → without_parts (after_done effect room).catalogue ≡ without_parts (catalogue_behind (entered (Done effect) room) room.catalogue)
 done_catalogue (Enter m change) room = ap without_parts (sym (after_indexed m change room.catalogue))
 done_catalogue (EnterPart m ssid part index) room = refl
 done_catalogue (TurnOver snapshot) room = turned_alike (length snapshot) room
@@ -158,19 +158,19 @@ done_catalogue (Close ssid) room = refl
 
 -- ---- some first changes
 
-take_front : (count : ℕ) (first more : List Stamped) → count ≤ length first → take count (first ++ more) ≡ take count first
+pub take_front : (count : ℕ) (first more : List Stamped) → count ≤ length first → take count (first ++ more) ≡ take count first
 take_front zero first more within = refl
 take_front (suc count) [] more within = absurd (omega (arith, within))
 take_front (suc count) (one ∷ first) more within = ap (λ rest. one ∷ rest) (take_front count first more (omega (arith, within)))
 
-take_behind : (first more : List Stamped) (count : ℕ) → take (length first + count) (first ++ more) ≡ first ++ take count more
+pub take_behind : (first more : List Stamped) (count : ℕ) → take (length first + count) (first ++ more) ≡ first ++ take count more
 take_behind [] more count = ap (λ n. take n more) (omega arith)
 take_behind (one ∷ first) more count =
     ap (λ n. take n (one ∷ (first ++ more))) (let e : length (one ∷ first) + count ≡ suc (length first + count) = omega arith in e)
     ∙ ap (λ rest. one ∷ rest) (take_behind first more count)
 
 -- first changes of a longer list
-some_of_more : (IsSnapshot : CatalogueLists → List ℕ → Type 0) (first more : List Stamped) (lists : CatalogueLists) (image : Image)
+pub some_of_more : (IsSnapshot : CatalogueLists → List ℕ → Type 0) (first more : List Stamped) (lists : CatalogueLists) (image : Image)
     → ReopensAfterSome IsSnapshot first lists image → ReopensAfterSome IsSnapshot (first ++ more) lists image
 some_of_more S first more lists image some = record {
   count = some.count;
@@ -181,7 +181,7 @@ some_of_more S first more lists image some = record {
 }
 
 -- changes behind others
-some_behind : (IsSnapshot : CatalogueLists → List ℕ → Type 0) (first more : List Stamped) (lists next : CatalogueLists) (image : Image) → AreIndexed more
+pub some_behind : (IsSnapshot : CatalogueLists → List ℕ → Type 0) (first more : List Stamped) (lists next : CatalogueLists) (image : Image) → AreIndexed more
     → without_parts next ≡ without_parts (catalogue_behind first lists)
     → ReopensAfterSome IsSnapshot more next image → ReopensAfterSome IsSnapshot (first ++ more) lists image
 some_behind S first more lists next image indexed same some =

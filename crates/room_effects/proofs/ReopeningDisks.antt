@@ -1,5 +1,5 @@
 -- What the journal's files on a disk reopen as, while deeds are done and after them.
-use Rattle.std.proofs.Common.{◌≡◌, ℕ, List, [], ◌∷◌, ◌++◌, refl, sym, ap, ◌∙◌, subst}
+use Rattle.std.proofs.Common.{◌≡◌, ℕ, List, [], ◌∷◌, ◌++◌, sym, ap, ◌∙◌, subst}
 use Rattle.std.specs.Prelude.{IsTrue}
 use Rattle.room_disk.specs.Disk.{DiskView, Image, Images, IsDisk, Leaves}
 use Rattle.room_disk.proofs.Runs.{leaves_weaker}
@@ -15,7 +15,8 @@ use Rattle.room_catalog.specs.Held.{CatalogueLists, catalogue_of}
 use Rattle.room_effects.specs.View.{RoomView, IsRoom}
 use Rattle.room_effects.specs.Effects.{Deed}
 use Rattle.room_effects.specs.Running.{AreFounded, Crashed, FromOne, Known, Performed, Ready, trail}
-use Rattle.room_effects.specs.Reopening.{AreAlike, AreTexts, HaveSnapshots, MeansCatalogue, Reopens, ReopensAfterSome, behind_entries}
+use Rattle.room_effects.specs.Reopening.{AreAlike, HaveSnapshots, MeansCatalogue, Reopens, ReopensAfterSome}
+use Rattle.room_effects.specs.Replaying.{Replays, lists_behind}
 use Rattle.room_effects.proofs.Journals.{knows_alike}
 use Rattle.room_effects.proofs.Reopening.{crash_reopens, end_reopens}
 use Rattle.room_effects.proofs.Standing.{KeepsJournal, reopens_kept}
@@ -31,16 +32,12 @@ one_entry payload one other text also =
     let same = one-change one.moment other.moment one.change other.change [] [] text.is also.is (ap (λ (t : List ℕ). t ++ []) (sym text.text ∙ also.text)) in
     ap (λ n. stamped_with n one.change) same.0 ∙ ap (stamped_with other.moment) same.1
 
--- payloads tell one list of entries
-one_list : (payloads : List (List ℕ)) (entries others : List Stamped) → AreTexts payloads entries → AreTexts payloads others → entries ≡ others
-one_list [] [] [] texts also = refl
-one_list [] [] (other ∷ others) texts also = absurd also
-one_list [] (one ∷ entries) others texts also = absurd texts
-one_list (payload ∷ payloads) [] others texts also = absurd texts
-one_list (payload ∷ payloads) (one ∷ entries) [] texts also = absurd also
-one_list (payload ∷ payloads) (one ∷ entries) (other ∷ others) texts also =
-    ap (λ first. first ∷ entries) (one_entry payload one other texts.0 also.0)
-    ∙ ap (λ rest. other ∷ rest) (one_list payloads entries others texts.1 also.1)
+-- entries leave one catalogue
+replays_once : (form : ℕ) (payloads : List (List ℕ)) (first one other : CatalogueLists) → Replays form payloads first one → Replays form payloads first other → one ≡ other
+replays_once form [] first one other replays also = replays ∙ sym also
+replays_once form (payload ∷ payloads) first one other replays also =
+    let R : Stamped → Type 0 = λ told. Replays form payloads (lists_behind told first) one in
+    replays_once form payloads (lists_behind also.0 first) one other (subst R (one_entry payload replays.0 also.0 replays.1.text also.1.text) replays.2) also.2
 
 one_given : (IsSnapshot : CatalogueLists → List ℕ → Type 0)
     → ((bytes : List ℕ) (one other : CatalogueLists) → IsSnapshot one bytes → IsSnapshot other bytes → one ≡ other)
@@ -48,11 +45,9 @@ one_given : (IsSnapshot : CatalogueLists → List ℕ → Type 0)
 one_given S single Unopened one other gives also = (gives.0 ∙ sym also.0, gives.1 ∙ sym also.1)
 one_given S single (Damaged file place) one other gives also = absurd gives
 one_given S single (Stands file contents) one other gives also =
-    let same : one ≡ other =
-    gives.is
-    ∙ ap (behind_entries gives.entries) (single contents.snapshot gives.first also.first gives.snapshot also.snapshot)
-    ∙ ap (λ entries. behind_entries entries also.first) (one_list contents.payloads gives.entries also.entries gives.texts also.texts)
-    ∙ sym also.is in
+    let R : CatalogueLists → Type 0 = λ first. Replays contents.head.form contents.payloads first one in
+    let same = replays_once contents.head.form contents.payloads also.first one other
+    (subst R (single contents.snapshot gives.first also.first gives.snapshot also.snapshot) gives.replays) also.replays in
     (ap catalogue_of same, ap (λ (lists : CatalogueLists). lists.parts) same)
 
 -- Where bytes are the snapshot of one catalogue, files reopen as one.

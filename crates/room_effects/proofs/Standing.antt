@@ -3,17 +3,16 @@ use Rattle.std.proofs.Common.{◌≡◌, ℕ, ◌≤◌, List, [], ◌∷◌, �
 use Rattle.std.specs.Prelude.{Option, Some, None, IsSome}
 use Rattle.room_disk.specs.Disk.{Image}
 use Rattle.cat_journal.specs.Contents.{Contents, with_payload}
-use Rattle.cat_journal.specs.Journal.{IsAt, JournalView, KnowsFiles, StandOn, behind_entry, file_of}
+use Rattle.cat_journal.specs.Journal.{IsAt, JournalView, KnowsFiles, StandOn, behind_entry, file_of, form_of}
 use Rattle.cat_journal.specs.Meaning.{Meaning, Means, Stands}
 use Rattle.cat_journal.specs.declared.current.CurrentFile.{CurrentFile}
 use Rattle.cat_journal.proofs.OneMeaning.{one_meaning}
 use Rattle.catalog_change.specs.Catalogues.{max_number}
-use Rattle.catalog_change.specs.declared.change.Change.{Change}
-use Rattle.catalog_text.specs.Changes.{Stamped, change_text}
-use Rattle.catalog_text.specs.Decoding.{ChangeText, IsStamped}
-use Rattle.room_catalog.specs.Held.{CatalogueLists}
+use Rattle.catalog_text.specs.Changes.{Stamped}
+use Rattle.room_catalog.specs.Held.{CatalogueLists, no_parts}
 use Rattle.room_effects.specs.View.{RoomView, AreDrives, IsRoom}
-use Rattle.room_effects.specs.Reopening.{GiveCatalogue, MeansCatalogue, Reopens, behind_entries, behind_told, AreTexts}
+use Rattle.room_effects.specs.Reopening.{GiveCatalogue, MeansCatalogue, Reopens}
+use Rattle.room_effects.specs.Replaying.{Follows, Replays, lists_behind}
 use Rattle.room_effects.proofs.Journals.{HasRange, knows_alike, means_alike, range_of}
 
 -- The files are those of the room's journal, and give its catalogue.
@@ -22,6 +21,7 @@ pub record StandsAs (IsSnapshot : CatalogueLists → List ℕ → Type 0) (room 
   pub bound : room.journal.last ≤ max_number
   pub range : HasRange room.journal.current
   pub drives : AreDrives room.drives
+  pub bare : form_of room.journal.current ≡ 1 → room.catalogue.parts ≡ no_parts
   pub knows : KnowsFiles room.journal files
   pub reopens : Reopens IsSnapshot files room.catalogue
 
@@ -32,6 +32,7 @@ stands_first IsSnapshot room files is knows reopens = record {
   bound = omega (arith, is.journal.number, is.catalogue.catalogue.number);
   range = range_of room.journal.current is.journal.known;
   drives = is.drives;
+  bare = is.journal.first_form;
   knows = knows;
   reopens = reopens;
 }
@@ -64,6 +65,8 @@ stands_kept IsSnapshot room new before image same catalogue journal drives stand
       bound = subst B (sym journal) stands.bound;
       range = subst R (sym journal) stands.range;
       drives = drives;
+      bare = λ first. ap (λ (lists : CatalogueLists). lists.parts) catalogue
+          ∙ stands.bare (ap (λ (one : JournalView). form_of one.current) (sym journal) ∙ first);
       knows = subst J (sym journal) (knows_alike room.journal before image same.first same.second stands.knows);
       reopens = subst C (sym catalogue) (reopens_kept IsSnapshot before image room.catalogue same stands.reopens);
     }
@@ -114,29 +117,29 @@ same_range (Some current) size range = range
 
 -- ---- one entry more
 
-behind_one_more : (entries : List Stamped) (one : Stamped) (lists : CatalogueLists)
-    → behind_entries (entries ++ one ∷ []) lists ≡ behind_told one.moment one.change (behind_entries entries lists)
-behind_one_more [] one lists = refl
-behind_one_more (first ∷ entries) one lists = behind_one_more entries one (behind_told first.moment first.change lists)
+pub same_form : (current : Option CurrentFile) (size : ℕ) → form_of (behind_entry current size) ≡ form_of current
+same_form None size = refl
+same_form (Some current) size = refl
 
-texts_more : (payloads : List (List ℕ)) (entries : List Stamped) (payload : List ℕ) (one : Stamped) → AreTexts payloads entries
-    → ChangeText payload one.moment one.change → AreTexts (payloads ++ payload ∷ []) (entries ++ one ∷ [])
-texts_more [] [] payload one texts text = (text, tt)
-texts_more [] (first ∷ entries) payload one texts text = absurd texts
-texts_more (front ∷ payloads) [] payload one texts text = absurd texts
-texts_more (front ∷ payloads) (first ∷ entries) payload one texts text = (texts.0, texts_more payloads entries payload one texts.1 text)
+pub form_at : (current : Option CurrentFile) (last : ℕ) (contents : Contents) → IsAt current last contents → form_of current ≡ contents.head.form
+form_at None last contents at = absurd at
+form_at (Some current) last contents at = at.form
+
+pub replays_more : (form : ℕ) (payloads : List (List ℕ)) (payload : List ℕ) (first mid end : CatalogueLists) → Replays form payloads first mid
+    → (one : Stamped) × Follows form payload mid one × (end ≡ lists_behind one mid) → Replays form (payloads ++ payload ∷ []) first end
+replays_more form [] payload first mid end replays told =
+    let F : CatalogueLists → Type 0 = λ lists. Follows form payload lists told.0 in
+    (told.0, subst F replays told.1, told.2 ∙ ap (lists_behind told.0) replays)
+replays_more form (payload' ∷ payloads) payload first mid end replays told =
+    (replays.0, replays.1, replays_more form payloads payload (lists_behind replays.0 first) mid end replays.2 told)
 
 -- contents with one entry more give the catalogue behind it
-pub gives_more : (IsSnapshot : CatalogueLists → List ℕ → Type 0) (contents : Contents) (lists : CatalogueLists) (moment : ℕ) (change : Change)
-    → IsStamped moment change → GiveCatalogue IsSnapshot contents lists
-    → GiveCatalogue IsSnapshot (with_payload contents (change_text moment change)) (behind_told moment change lists)
-gives_more IsSnapshot contents lists moment change written gives =
-    let one : Stamped = record { moment = moment; change = change } in
-    record {
-      first = gives.first;
-      snapshot = gives.snapshot;
-      number = gives.number;
-      entries = gives.entries ++ one ∷ [];
-      texts = texts_more contents.payloads gives.entries (change_text moment change) one gives.texts (record { is = written; text = refl });
-      is = ap (behind_told moment change) gives.is ∙ sym (behind_one_more gives.entries one gives.first);
-    }
+pub gives_more : (IsSnapshot : CatalogueLists → List ℕ → Type 0) (contents : Contents) (lists : CatalogueLists) (payload : List ℕ) (one : Stamped)
+    → Follows contents.head.form payload lists one → GiveCatalogue IsSnapshot contents lists
+    → GiveCatalogue IsSnapshot (with_payload contents payload) (lists_behind one lists)
+gives_more IsSnapshot contents lists payload one follows gives = record {
+  first = gives.first;
+  snapshot = gives.snapshot;
+  number = gives.number;
+  replays = replays_more contents.head.form contents.payloads payload gives.first lists (lists_behind one lists) gives.replays (one, follows, refl);
+}

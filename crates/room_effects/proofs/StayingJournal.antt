@@ -133,7 +133,7 @@ stays_turn_over snapshot room is can = by (is_at_last room.journal) refl
         (stays_so room (record room.catalogue { parts = no_parts }) (turned_over room.journal (length snapshot)) is can.opens
         (record { catalogue = is.catalogue.catalogue; parts = tt })
         (record {
-          known = turned_is_known room.journal (length snapshot) is.journal.known next can.needs;
+          known = turned_is_known room.journal (length snapshot) is.journal.known next can.needs.place;
           number = is.journal.number;
           unopened = λ none. absurd (cc none);
           first_form = λ first. refl;

@@ -5,4 +5,5 @@ pub mod Memory
 pub mod Files
 pub mod Faults
 pub mod Running
+pub mod Replaying
 pub mod Reopening

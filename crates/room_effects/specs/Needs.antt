@@ -1,5 +1,5 @@
 -- What each effect needs of the room so that it can be done. What memory it needs stands apart.
-use Rattle.std.specs.Prelude.{◌≡◌, ◌≢◌, ℕ, ◌+◌, ◌≤◌, ◌<◌, ◌^◌, List, length, IsTrue}
+use Rattle.std.specs.Prelude.{◌≡◌, ◌≢◌, ℕ, ◌+◌, ◌≤◌, ◌<◌, ◌^◌, true, List, length, IsTrue}
 use Rattle.std.specs.Prelude.{Some, None, IsSome, IsSomeAnd, IfSome, IsOk}
 use Rattle.room_base.specs.Numbers.{max_moment}
 use Rattle.room_base.specs.declared.numbers.Moment.{Moment}
@@ -16,6 +16,7 @@ use Rattle.cat_journal.specs.Journal.{form_of}
 use Rattle.catalog_change.specs.Changes.{IsChange}
 use Rattle.catalog_change.specs.declared.change.Change.{Change}
 use Rattle.catalog_change.specs.declared.change.Change.TheVariants.{IndexPart}
+use Rattle.snapshot_reading.specs.Spelled.{IsText}
 use Rattle.room_catalog.specs.Fits.{Fits, FitsParts}
 use Rattle.room_catalog.specs.Held.{catalogue_of}
 use Rattle.slot_changer.specs.Drives.{DriveView, IsDrive, MayTakeOut}
@@ -75,6 +76,11 @@ pub record CanEnterPart (m : Moment) (ssid : Ssid) (part : ℕ) (index : List In
   pub entry : TakesEntry (length (part_bytes m ssid part index)) room
   pub form : form_of room.journal.current ≡ 2
 
+-- the snapshot is the catalogue's text, and the gate behind it has a place
+pub record CanTurnOver (snapshot : List ℕ) (room : RoomView) : Type 0 where
+  pub text : IsText true snapshot (catalogue_of room.catalogue)
+  pub place : 65 + length snapshot < 2 ^ 64
+
 -- ---- cartridges and drives
 
 -- the cartridge of this number is in no drive
@@ -132,8 +138,7 @@ IsTaken piece session = IsOk (reads session.reading piece)
 abbrev pub Needs : Effect → RoomView → Type 0
 Needs (Enter m change) room = CanEnter m change room
 Needs (EnterPart m ssid part index) room = CanEnterPart m ssid part index room
--- the gate behind the snapshot has a place
-Needs (TurnOver snapshot) room = 65 + length snapshot < 2 ^ 64
+Needs (TurnOver snapshot) room = CanTurnOver snapshot room
 Needs (Commit drive asking) room = IsDrive drive × IsSomeAnd (held_in room drive) CanCommit
 Needs (Look cart seen) room = IsCart cart
 Needs (WriteLabel label) room = CanWriteLabel label room

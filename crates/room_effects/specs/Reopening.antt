@@ -4,33 +4,13 @@ use Rattle.std.specs.Prelude.{◌≡◌, ℕ, ◌≤◌, List, [], ◌∷◌, le
 use Rattle.room_disk.specs.Disk.{Image}
 use Rattle.cat_journal.specs.Contents.{Contents}
 use Rattle.cat_journal.specs.Meaning.{Meaning, Means, Unopened, Damaged, Stands}
-use Rattle.catalog_change.specs.declared.change.Change.{Change}
-use Rattle.catalog_change.specs.declared.change.Change.TheVariants.{IndexPart}
 use Rattle.catalog_text.specs.Changes.{Stamped}
-use Rattle.catalog_text.specs.Decoding.{ChangeText}
 use Rattle.room_catalog.specs.Held.{CatalogueLists, catalogue_of, no_parts, opening_catalogue}
 use Rattle.room_effects.specs.View.{RoomView}
 use Rattle.room_effects.specs.Effects.{Effect, TurnOver, Deed, after, effect_of}
-use Rattle.room_catalog.specs.Changing.{catalogue_after, with_part_waiting, without_parts}
+use Rattle.room_catalog.specs.Changing.{without_parts}
+use Rattle.room_effects.specs.Replaying.{Replays}
 use Rattle.room_effects.specs.Running.{catalogue_behind}
-
--- ---- entries
-
--- the catalogue behind an entry: a part waits, and a change is applied
-abbrev pub behind_told : ℕ → Change → CatalogueLists → CatalogueLists
-behind_told moment (IndexPart ssid part index) lists = with_part_waiting ssid part index lists
-behind_told moment change lists = catalogue_after (record { 0 = moment }) change lists
-
-abbrev pub behind_entries : List Stamped → CatalogueLists → CatalogueLists
-behind_entries [] lists = lists
-behind_entries (one ∷ more) lists = behind_entries more (behind_told one.moment one.change lists)
-
--- each payload is the text of its entry
-abbrev pub AreTexts : List (List ℕ) → List Stamped → Type 0
-AreTexts [] [] = Unit {0}
-AreTexts (payload ∷ payloads) (one ∷ entries) =
-    ChangeText payload one.moment one.change × AreTexts payloads entries
-AreTexts payloads entries = ⊥
 
 -- ---- files
 
@@ -40,9 +20,7 @@ pub record GiveCatalogue (IsSnapshot : CatalogueLists → List ℕ → Type 0) (
   pub first : CatalogueLists
   pub snapshot : IsSnapshot first contents.snapshot
   pub number : first.number ≡ contents.head.number
-  pub entries : List Stamped
-  pub texts : AreTexts contents.payloads entries
-  pub is : lists ≡ behind_entries entries first
+  pub replays : Replays contents.head.form contents.payloads first lists
 
 -- where no journal file is open, the opening catalogue
 abbrev pub MeansCatalogue : (CatalogueLists → List ℕ → Type 0) → Meaning → CatalogueLists → Type 0

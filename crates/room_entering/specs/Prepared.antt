@@ -2,7 +2,7 @@
 use Rattle.std.specs.Prelude.{◌≡◌, ℕ, ◌<◌, ◌^◌, true, List, length, Option, Some, None, IsSome}
 use Rattle.room_base.specs.declared.numbers.Moment.{Moment}
 use Rattle.catalog_change.specs.declared.change.Change.{Change}
-use Rattle.snapshot_text.specs.Snapshots.{snapshot_text}
+use Rattle.snapshot_reading.specs.Spelled.{IsText}
 use Rattle.room_catalog.specs.Held.{catalogue_of}
 use Rattle.room_effects.specs.View.{RoomView}
 use Rattle.room_effects.specs.Effects.{Enter, entry_bytes}
@@ -11,8 +11,8 @@ use Rattle.room_effects.specs.Memory.{HasMemoryFor, HeldRoom}
 -- a file of the journal is open; or none is, and this snapshot begins the first one
 abbrev pub IsFirstFile : Option (List ℕ) → RoomView → Type 0
 IsFirstFile None room = IsSome room.journal.current
-IsFirstFile (Some snapshot) room = (room.journal.current ≡ None)
-    × (snapshot ≡ snapshot_text true (catalogue_of room.catalogue))
+IsFirstFile (Some snapshot) room =
+    (room.journal.current ≡ None) × IsText true snapshot (catalogue_of room.catalogue)
 
 -- there is memory for the change at whatever moment, its entry can be written, and the first file is
 -- at hand where it is needed

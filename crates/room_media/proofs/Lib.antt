@@ -2,6 +2,5 @@ mod Finding
 mod Loading
 mod Putting
 mod Emptying
-mod Recording
 mod Relabelling
 mod Asking

@@ -14,7 +14,7 @@ use Rattle.room_effects.specs.View.{RoomView, held_in}
 use Rattle.room_effects.specs.Effects.{PutIn}
 use Rattle.room_effects.specs.Needs.{CanDo, IsInNoDrive}
 use Rattle.room_plan.specs.Checked.{behind_check}
-use Rattle.room_media.specs.Mounting.{mounted_own, own_label}
+use Rattle.room_media.specs.Mounting.{IsOn, mounted_own, own_label}
 
 -- the volume that is the one on record is the one that mounting gave
 pub own_is : (volume : Option VolumeRec) (cart : Cart) (answer : Result Volume MountFault) (mounted : Volume) → Ok mounted ≡ mounted_own volume cart answer → answer ≡ Ok mounted
@@ -48,3 +48,13 @@ can_put drive cart room answer volume is opens is_drive empty is_cart in_no_driv
         in_no_drive = subst N (sym here) in_no_drive;
       };
     }
+
+-- ---- on which cartridge
+
+pub is_on : (cart : Cart) (answer : Result Volume MountFault) → IfOk answer (λ v. v.cart ≡ cart) → IsOn (Ok cart) answer
+is_on cart (Ok mounted) same = same
+is_on cart (Err fault) same = tt
+
+pub none_on : (cart : Result Cart Refusal) → IsOn cart (Err mounts.Unlabelled)
+none_on (Ok cart) = tt
+none_on (Err refusal) = tt

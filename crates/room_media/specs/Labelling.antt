@@ -1,6 +1,6 @@
 -- The plan of labelling.
 use Rattle.std.specs.Prelude.{◌≡◌, ℕ, ◌-◌, ◌/◌, ◌==◌, ◌&&◌, ◌||◌, nat_le, Bool, true, false}
-use Rattle.std.specs.Prelude.{List, [], ◌∷◌, ◌++◌, map, length, replicate, codes, MatchBool}
+use Rattle.std.specs.Prelude.{List, [], ◌∷◌, ◌++◌, length, replicate, codes, MatchBool}
 use Rattle.std.specs.Prelude.{Option, Some, None, IfSome, Result, Ok, Err}
 use Rattle.std.specs.Option.{is_some}
 use Rattle.room_base.specs.declared.numbers.Cart.{Cart}
@@ -9,9 +9,7 @@ use Rattle.room_base.specs.declared.numbers.Ssid.{Ssid}
 use Rattle.room_base.specs.declared.numbers.Volid.{Volid}
 use Rattle.room_base.specs.declared.refusal.Refusal.{Refusal}
 use Rattle.room_base.specs.declared.refusal.Refusal.TheVariants as refusals
-use Rattle.media_db.specs.Rows.{find_record, volume_on}
-use Rattle.media_db.specs.declared.copies.Section.{Section}
-use Rattle.media_db.specs.declared.records.Record.{Record}
+use Rattle.media_db.specs.Rows.{volume_on}
 use Rattle.media_db.specs.declared.volumes.VolumeRec.{VolumeRec}
 use Rattle.catalog_change.specs.Resources.{IsShortName, pool_name}
 use Rattle.catalog_change.specs.declared.change.Change.TheVariants as changes
@@ -21,13 +19,11 @@ use Rattle.volume_block.specs.declared.label.Label.{Label}
 use Rattle.volume_store.specs.declared.label.Found.{Found}
 use Rattle.volume_store.specs.declared.label.Found.TheVariants as found
 use Rattle.dep_chain.specs.Labelling.{IsLabelAnswer}
-use Rattle.dep_chain.specs.declared.open_set.OpenSet.{OpenSet}
-use Rattle.save_session.specs.Sessions.{SessionView, find_session}
 use Rattle.room_command.specs.declared.answer.Answer.TheVariants.{Labelled}
 use Rattle.room_command.specs.declared.reply.Reply.TheVariants.{Done}
 use Rattle.room_effects.specs.View.{RoomView}
 use Rattle.room_effects.specs.Effects.{Enter, Look, SeenLabel, WriteLabel}
-use Rattle.room_effects.specs.Faults.{ssids_of}
+use Rattle.room_checks.specs.OpenSets.{open_sets}
 use Rattle.room_plan.specs.Checked.{behind, behind_check, checked, unless}
 use Rattle.room_plan.specs.Entering.{entering}
 use Rattle.room_plan.specs.Plans.{Plan}
@@ -97,30 +93,6 @@ abbrev pub old_label : Option VolumeRec → Found → Option (Result (Unit {0}) 
     → Result Volid Refusal
 old_label volume found asked = behind_check (label_was volume found)
     (λ was. behind_check (may_replace volume asked) (λ done. Ok was))
-
--- ---- the open sessions
-
-abbrev pub base_of : Option Record → Ssid
-base_of None = record { 0 = 0 }
-base_of (Some row) = row.base
-
-abbrev pub volid_of : Section → Volid
-volid_of section = section.volid
-
-abbrev pub volids_of : Option SessionView → List Volid
-volids_of None = []
-volids_of (Some session) = map volid_of session.sections
-
--- an open session's set, the base on record, and the volumes on which its sections lie
-abbrev pub open_set : RoomView → Ssid → OpenSet
-open_set room ssid = record {
-  ssid = ssid;
-  base = base_of (find_record ssid.0 room.catalogue.records);
-  volids = volids_of (find_session ssid.0 room.sessions);
-}
-
-abbrev pub open_sets : RoomView → List OpenSet
-open_sets room = map (open_set room) (ssids_of room.sessions)
 
 -- ---- labelling
 

@@ -103,9 +103,15 @@ abbrev pub mount_plan : ℕ → ℕ → Found → Result Volume MountFault → R
 mount_plan slot drive found answer room = checked (mount_checks slot drive room)
     (λ cart. cart_plan drive found answer (volume_on cart.0 room.catalogue.volumes) cart)
 
+-- a volume that mounting gives is on the cartridge that the checks came to
+abbrev pub IsOn : Result Cart Refusal → Result Volume MountFault → Type 0
+IsOn (Ok cart) (Ok mounted) = mounted.cart ≡ cart
+IsOn cart answer = Unit {0}
+
 -- the plan for some label and some volume, which are found on the cartridge where they are looked at
 abbrev pub IsMountPlan : ℕ → ℕ → RoomView → Plan → Type 0
 IsMountPlan slot drive room plan = (found : Found) × (answer : Result Volume MountFault)
+    × IsOn (mount_checks slot drive room) answer
     × (plan ≡ mount_plan slot drive found answer room)
 
 -- ---- unmounting

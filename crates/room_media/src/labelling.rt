@@ -25,11 +25,11 @@ ghost use Rattle.room_media.specs.NewVolumes.{IsNewVolume};
 
 use crate::drives::free_cart;
 use crate::labels::volume_on;
-use crate::refusals::{malformed, no_such_name};
 use crate::replacing::old_label;
 use crate::slots::is_slot;
 use catalog_change::Change;
 use room_base::{Cart, Memory, Moment, Name, Refusal, Volid, name_text};
+use room_checks::{malformed, no_such_name};
 use room_command::{Answer, Reply};
 use room_disk::Store;
 use room_entering::{CEILING, enter_prepared, is_at_ceiling, prepare_entry};
@@ -42,13 +42,15 @@ const MAX_POOL: usize = 64;
 /// The blocks of a volume are numbered by units of so many bytes.
 const UNIT: u32 = 4096;
 
-/// What a cartridge is to become.
+/// What a cartridge is to become, as the plan of labelling has it.
 #[derive(Drop)]
-pub(crate) struct NewVolume {
-    pub(crate) cart: Cart,
-    pub(crate) pool: Name,
-    pub(crate) capacity: u32,
-    pub(crate) units: u32,
+pub struct NewVolume {
+    pub cart: Cart,
+    pub pool: Name,
+    /// In units of 4,096 bytes.
+    pub capacity: u32,
+    /// How many units a data block has.
+    pub units: u32,
 }
 
 /// Makes a volume of the cartridge in a slot.

@@ -7,12 +7,11 @@ mod labelling;
 mod labels;
 mod listing;
 mod mounting;
-mod refusals;
 mod replacing;
 mod slots;
 mod unmounting;
 
-pub use labelling::label;
+pub use labelling::{NewVolume, label};
 pub use listing::inventory;
 pub use mounting::mount;
 pub use slots::{eject, load};

@@ -17,9 +17,9 @@ ghost use Rattle.room_media.specs.Mounting.{volume_plan};
 
 use crate::drives::free_cart;
 use crate::labels::{found_own, mounted_own, volume_on};
-use crate::refusals::malformed;
 use crate::slots::is_slot;
 use room_base::{Cart, Memory, Refusal};
+use room_checks::malformed;
 use room_command::{Answer, Reply};
 use room_disk::Store;
 use room_state::RoomState;
@@ -74,7 +74,7 @@ fn mount_cart<D: Store>(room: &mut RoomState, store: &mut D, drive: u8, cart: Ca
     requires cart { IsCart cart.0 }
     requires in_no_drive { IsInNoDrive cart.0 room.old.room }
     ensures { (found : Found) × (answer : Result Volume MountFault)
-        × Follows (cart_plan drive found answer
+        × IfOk answer (λ mounted. mounted.cart ≡ cart) × Follows (cart_plan drive found answer
         (volume_on cart.0 room.old.room.catalogue.volumes) cart) result
         room.old.room room.new.room (D.view store.old) (D.view store.new) }
 {
@@ -94,7 +94,8 @@ fn mount_volume<D: Store>(room: &mut RoomState, store: &mut D, drive: u8, cart: 
     requires empty { held_in room.old.room drive ≡ None }
     requires cart { IsCart cart.0 }
     requires in_no_drive { IsInNoDrive cart.0 room.old.room }
-    ensures { (answer : Result Volume MountFault) × Follows (volume_plan drive answer
+    ensures { (answer : Result Volume MountFault)
+        × IfOk answer (λ mounted. mounted.cart ≡ cart) × Follows (volume_plan drive answer
         (volume_on cart.0 room.old.room.catalogue.volumes) cart) result
         room.old.room room.new.room (D.view store.old) (D.view store.new) }
 {

@@ -1,24 +1,22 @@
 //! Whether the label of a cartridge may be replaced.
 
-ghost use Rattle.std.specs.Prelude.{◌≡◌, ◌≤◌, IfOk, IfSome, Option, Result, Some, Ok, map};
+ghost use Rattle.std.specs.Prelude.{◌≡◌, ◌≤◌, IfSome, Option, Result, Some, Ok};
 ghost use Rattle.std.specs.Option.{option_copied};
 ghost use Rattle.room_base.specs.Numbers.{max_moment};
 ghost use Rattle.room_base.specs.declared.numbers.Ssid.{Ssid};
-ghost use Rattle.media_db.specs.Rows.{find_record, volume_on};
-ghost use Rattle.save_session.specs.Sessions.{find_session};
+ghost use Rattle.media_db.specs.Rows.{volume_on};
 ghost use Rattle.room_effects.specs.View.{IsBetweenCommands};
 ghost use Rattle.room_plan.specs.Checked.{ComesTo, unless};
 ghost use Rattle.room_base.specs.declared.refusal.Refusal.TheVariants.{Strange};
-ghost use Rattle.room_media.specs.Labelling.{IsAsked, base_of, is_known_label, label_was};
-ghost use Rattle.room_media.specs.Labelling.{may_replace, old_label, open_set, open_sets};
-ghost use Rattle.room_media.specs.Labelling.{volid_of, volids_of};
+ghost use Rattle.room_media.specs.Labelling.{IsAsked, is_known_label, label_was, may_replace};
+ghost use Rattle.room_media.specs.Labelling.{old_label};
 
 use crate::labels::volume_on;
-use dep_chain::{OpenSet, may_label};
-use media_db::{Section, VolumeRec};
-use room_base::{Cart, Items, Memory, Moment, Refusal, Ssid, Volid};
+use dep_chain::may_label;
+use media_db::VolumeRec;
+use room_base::{Cart, Memory, Moment, Refusal, Volid};
+use room_checks::open_sets;
 use room_state::RoomState;
-use std::alloc::Global;
 use volume_store::Found;
 
 /// The volume that the label of a cartridge names, 0 where there is none, if it may be replaced.
@@ -99,57 +97,4 @@ fn may_forget(room: &RoomState, m: Moment, volume: &VolumeRec) -> Result<(), Ref
         },
         Err(Memory) => Err(Refusal::NoMemory),
     }
-}
-
-// The sets of the open sessions, and on which volumes they lie.
-fn open_sets(room: &RoomState) -> Result<Items<OpenSet>, Memory>
-    ensures { IfOk result (λ sets. sets ≡ open_sets room.now.room) }
-{
-    let mut sets = Vec::new(room.allocator());
-    for ssid in room.sessions().ssids() {
-        sets.push(open_set(room, *ssid)?)?;
-    }
-    Ok(Items::of(sets))
-}
-
-fn open_set(room: &RoomState, ssid: Ssid) -> Result<OpenSet, Memory>
-    ensures { IfOk result (λ set. set ≡ open_set room.now.room ssid) }
-{
-    Ok(OpenSet {
-        ssid,
-        base: base_of(room, ssid),
-        volids: Items::of(volids_of(room, ssid)?),
-    })
-}
-
-// The base of a set, 0 where it isn't on record.
-fn base_of(room: &RoomState, ssid: Ssid) -> Ssid
-    ensures { result ≡ base_of (find_record ssid.0 room.now.room.catalogue.records) }
-{
-    match room.catalogue().db().record(ssid) {
-        Some(row) => row.base,
-        None => Ssid(0),
-    }
-}
-
-// The volumes on which the sections of an open session lie.
-fn volids_of(room: &RoomState, ssid: Ssid) -> Result<Vec<Volid>, Memory>
-    ensures { IfOk result
-        (λ volids. volids.items ≡ volids_of (find_session ssid.0 room.now.room.sessions)) }
-{
-    let alloc = room.allocator();
-    if !room.sessions().is_open(ssid) {
-        return Ok(Vec::new(alloc));
-    }
-    volids_in(alloc, room.sessions().sections(ssid))
-}
-
-fn volids_in(alloc: Global, sections: &[Section]) -> Result<Vec<Volid>, Memory>
-    ensures { IfOk result (λ volids. volids.items ≡ map volid_of sections.now) }
-{
-    let mut volids = Vec::new(alloc);
-    for section in sections {
-        volids.push(section.volid)?;
-    }
-    Ok(volids)
 }

@@ -9,9 +9,9 @@ ghost use Rattle.room_media.specs.Slots.{eject_checks, eject_plan, is_cart, is_s
 ghost use Rattle.room_media.specs.Slots.{load_plan, slot_with};
 
 use crate::drives::free_cart;
-use crate::refusals::{exists, in_use, malformed};
 use catalog_change::{Change, FilledSlot};
 use room_base::{Cart, Moment, Refusal};
+use room_checks::{exists, in_use, malformed};
 use room_command::{Answer, Reply};
 use room_disk::Store;
 use room_entering::enter_alone;

@@ -11,8 +11,8 @@ ghost use Rattle.room_state.specs.Commits.{IsReadyForCommits};
 ghost use Rattle.room_media.specs.Mounting.{emptying, unmount_checks, unmount_plan};
 
 use crate::mounting::is_drive;
-use crate::refusals::{malformed, no_such};
 use room_base::{Memory, Refusal};
+use room_checks::{malformed, no_such};
 use room_command::{Answer, Reply};
 use room_disk::Store;
 use room_state::RoomState;

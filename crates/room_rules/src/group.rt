@@ -4,7 +4,7 @@ use crate::Action;
 use room_base::{Items, Memory, Name, Ssid};
 
 /// A client's set that a group saves.
-#[derive(Debug, PartialEq, Drop)]
+#[derive(Drop)]
 pub struct Member {
     pub client: Name,
     pub set: Name,
@@ -22,7 +22,7 @@ impl Member {
 }
 
 /// Sets that are saved by one schedule.
-#[derive(Debug, PartialEq, Drop)]
+#[derive(Drop)]
 pub struct Group {
     pub name: Name,
     pub schedule: Name,
@@ -49,7 +49,7 @@ impl Group {
 }
 
 /// What a group does with one of its members on a day.
-#[derive(Debug, PartialEq, Drop)]
+#[derive(Drop)]
 pub struct Planned {
     pub client: Name,
     pub set: Name,

@@ -15,6 +15,3 @@ pub use group::{Group, Member, Planned};
 pub use policy::{Policy, Unit, until};
 pub use pool::{DEFAULT_POOL, Pool, hold_default, names_ascend, pool_of};
 pub use schedule::{Override, Period, Schedule};
-
-#[cfg(test)]
-mod tests;

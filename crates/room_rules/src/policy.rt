@@ -5,7 +5,7 @@ ghost use Rattle.room_rules.specs.Times.{unit_seconds};
 use room_base::{MAX_MOMENT, Memory, Moment, Name};
 
 /// What a policy counts in. A month has 31 days here, and a year 366.
-#[derive(Clone, Copy, Debug, PartialEq, Eq)]
+#[derive(Clone, Copy, PartialEq, Eq)]
 pub enum Unit {
     Days,
     Weeks,
@@ -27,7 +27,7 @@ impl Unit {
 }
 
 /// How long something is kept: `count` units.
-#[derive(Debug, PartialEq, Drop)]
+#[derive(Drop)]
 pub struct Policy {
     pub name: Name,
     pub count: u32,

@@ -14,7 +14,7 @@ use std::cmp::Ordering;
 pub const DEFAULT_POOL: &str = "Default";
 
 /// Where saves go that meet its criteria. A list without items is no criterion.
-#[derive(Debug, PartialEq, Drop)]
+#[derive(Drop)]
 pub struct Pool {
     pub name: Name,
     pub groups: Items<Name>,

@@ -5,14 +5,14 @@ use room_base::{Items, Memory, Name};
 
 /// What the actions of a schedule are counted by: the days of a week from Sunday on, or those of a
 /// month.
-#[derive(Clone, Copy, Debug, PartialEq, Eq)]
+#[derive(Clone, Copy, PartialEq, Eq)]
 pub enum Period {
     Week,
     Month,
 }
 
 /// The action of one day, counted from 1970-01-01.
-#[derive(Clone, Copy, Debug, PartialEq, Eq)]
+#[derive(Clone, Copy, PartialEq, Eq)]
 pub struct Override {
     pub day: u32,
     pub action: Action,
@@ -20,7 +20,7 @@ pub struct Override {
 
 /// Which action there is on which day. A period that is longer than the list of actions goes over
 /// it again and again.
-#[derive(Debug, PartialEq, Drop)]
+#[derive(Drop)]
 pub struct Schedule {
     pub name: Name,
     pub period: Period,

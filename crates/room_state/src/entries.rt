@@ -25,7 +25,7 @@ use std::marker::Model;
 
 /// The journal, and the list in which the bytes of an entry are spelled before they are written.
 /// Contracts see it as a journal that has memory for entries of some length.
-#[derive(Debug, Drop)]
+#[derive(Drop)]
 pub(crate) struct EntryJournal {
     journal: Journal,
     text: Vec<u8>,

@@ -1,10 +1,10 @@
 //! The effects in memory on volumes and sessions. They take the memory that they need themselves,
 //! before anything is done.
 
-ghost use Rattle.std.specs.Prelude.{◌≡◌, OnErr, OnOk, IfSome, Some, true};
+ghost use Rattle.std.specs.Prelude.{◌≡◌, ◌<◌, OnErr, OnOk, IfSome, Some, true};
 ghost use Rattle.save_stream.specs.Fields.{IsIndex};
 ghost use Rattle.save_stream.specs.Spelling.{PathsAscend};
-ghost use Rattle.save_session.specs.Sessions.{FollowsPiece, find_session, of_session};
+ghost use Rattle.save_session.specs.Sessions.{FollowsPiece, find_session, of_session, room_for};
 ghost use Rattle.room_effects.specs.Effects.{Close, Open, PutIn, Take, TakeOut, after_done};
 ghost use Rattle.room_effects.specs.Needs.{CanDo};
 ghost use Rattle.room_state.specs.Memory.{TakesMemory};
@@ -36,12 +36,13 @@ impl RoomState {
         self.sessions.left(drive);
     }
 
-    /// Opens the session of a save set, of which nothing is sent yet.
+    /// Opens the session of a save set, of which nothing is sent yet, with memory for its first part.
     pub fn open_session(&mut self, head: SetHead) -> Result<(), Memory>
         requires { CanDo (Open head) self.old.room }
         ensures opened { OnOk result (self.new.room ≡ after_done (Open head) self.old.room) }
         ensures kept { OnErr result (self.new.room ≡ self.old.room) }
         ensures memory { TakesMemory (Open head) self.old.memory self.new.memory }
+        ensures first { OnOk result (0 < room_for head.ssid.0 self.new.memory.parts) }
     {
         self.sessions.start(head)?;
         Ok(())

@@ -42,15 +42,28 @@ impl RoomState {
         self.journal.reserve(length)
     }
 
-    /// Makes memory for the commit of each drive, whichever sessions are closed where it fails.
+    /// Makes memory for the end of a save: for the change that closes it, and, where the index of so
+    /// many entries comes in parts, for those.
+    pub fn prepare_index(&mut self, entries: u32) -> Result<(), Memory>
+        ensures ready { OnOk result (0 < self.new.memory.catalogue.indexes) }
+        ensures entries { OnOk result (entries ≤ self.new.memory.catalogue.entries) }
+        ensures room { self.new.room ≡ self.old.room }
+        ensures memory { KeepsMemory self.old.memory self.new.memory }
+    {
+        self.catalogue.prepare_index(entries)
+    }
+
+    /// Makes memory for the commit of each drive, whichever sessions are closed where it fails, also
+    /// where one more is open then.
     pub fn prepare_commits(&mut self) -> Result<(), Memory>
         ensures ready { OnOk result (IsReadyForCommits self.new) }
+        ensures more { OnOk result (length self.old.room.sessions < self.new.memory.closed) }
         ensures room { self.new.room ≡ self.old.room }
         ensures memory { KeepsMemory self.old.memory self.new.memory }
     {
         let count = self.sessions.ssids().len();
         self.closed.clear();
-        self.closed.reserve(count)?;
+        self.closed.reserve(count + 1)?;
         Ok(())
     }
 

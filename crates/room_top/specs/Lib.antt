@@ -1,3 +1,4 @@
+pub mod Desk
 pub mod Numbers
 pub mod Put
 pub mod Raw

@@ -12,7 +12,10 @@ use Rattle.volume_store.specs.Committed.{Committed, Unlabelled}
 use Rattle.volume_store.specs.Writes.{cart_file}
 use Rattle.room_top.specs.Raw.{GivesFile, IsDamagedIn, LacksFile, IsDamagedAt, IsStrange}
 use Rattle.room_top.specs.Put.{HasSize, HasOneFileMore, IsPut, IsOccupied, IsFull, kept_line}
-use Rattle.room_top.specs.Words.{ArePut, AreGet, Misfit}
+use Rattle.desk.specs.Runs.{Around, DeskRuns, around}
+use Rattle.desk.specs.declared.end.DeskEnd.{DeskEnd}
+use Rattle.room_top.specs.Desk.{desk_status}
+use Rattle.room_top.specs.Words.{ArePut, AreGet, AreDesk, Misfit}
 use Rattle.room_top.specs.declared.status.Status.{Status}
 use Rattle.room_top.specs.declared.status.Status.TheVariants as status
 
@@ -202,6 +205,18 @@ GetEnds cart number before now (status.Refused (refusals.NoSuch kind name)) =
     × OnCartridge cart before (λ disk. LacksFile disk number)
 GetEnds cart number before now other = ⊥
 
+-- ---- desk
+
+-- what a desk works on
+abbrev pub desk_around : World → Around
+desk_around all = around all.input all.out all.clock all.disk
+
+-- How a `desk` ends: it has run, and the status is that of its end. `DeskRuns` says of the counts of
+-- faults what is known.
+abbrev pub DeskEnds : World → World → Status → Type 0
+DeskEnds before now answer = (end : DeskEnd) × (answer ≡ desk_status end)
+    × DeskRuns end (desk_around before) (desk_around now)
+
 -- ---- every command
 
 -- how a run ends that reads its words alone: the first that doesn't fit is named, or memory comes
@@ -211,10 +226,14 @@ WordsEnd words before now (status.Usage word) = Misfit words word × Stays befor
 WordsEnd words before now status.Memory = Stays before now
 WordsEnd words before now other = ⊥
 
+-- how a run ends with words that aren't `desk`
+abbrev pub OthersEnd : List (List ℕ) → World → World → Status → Type 0
+OthersEnd words before now answer = WordsEnd words before now answer
+    ⊎ ((cart : ℕ) × ArePut words cart × PutEnds cart before now answer)
+    ⊎ ((cart : ℕ) × ((number : ℕ) × AreGet words cart number
+    × GetEnds cart number before now answer))
+
 -- how a run with these words ends
-pub record Ends (words : List (List ℕ)) (before now : World) (answer : Status) : Type 0 where
-  pub later : Later before now
-  pub so : WordsEnd words before now answer
-      ⊎ ((cart : ℕ) × ArePut words cart × PutEnds cart before now answer)
-      ⊎ ((cart : ℕ) × ((number : ℕ) × AreGet words cart number
-      × GetEnds cart number before now answer))
+abbrev pub Ends : List (List ℕ) → World → World → Status → Type 0
+Ends words before now answer = (Later before now × OthersEnd words before now answer)
+    ⊎ (AreDesk words × DeskEnds before now answer)

@@ -24,7 +24,7 @@ IsFileWord word number = (1 ≤ number) × (number < 2 ^ 64) × (word ≡ decima
 abbrev pub IsNoFileWord : List ℕ → Type 0
 IsNoFileWord word = (number : ℕ) → IsFileWord word number → ⊥
 
--- the words are `put` and a cartridge, or `get`, a cartridge and a file
+-- the words are `put` and a cartridge, or `get`, a cartridge and a file, or `desk` alone
 abbrev pub ArePut : List (List ℕ) → ℕ → Type 0
 ArePut words cart = IsCart cart × (words ≡ codes "put" ∷ decimal cart ∷ [])
 
@@ -32,6 +32,9 @@ abbrev pub AreGet : List (List ℕ) → ℕ → ℕ → Type 0
 AreGet words cart number =
     IsCart cart × ((1 ≤ number) × (number < 2 ^ 64))
     × (words ≡ codes "get" ∷ decimal cart ∷ decimal number ∷ [])
+
+abbrev pub AreDesk : List (List ℕ) → Type 0
+AreDesk words = words ≡ codes "desk" ∷ []
 
 -- the first word behind `put` that doesn't fit, or the empty text where one is missing
 abbrev pub PutMisfit : List (List ℕ) → List ℕ → Type 0
@@ -54,18 +57,26 @@ GetMisfit (cart ∷ rest) word =
     (IsNoCartWord cart × (word ≡ cart))
     ⊎ (((number : ℕ) × IsCartWord cart number) × FileMisfit rest word)
 
+-- the first word behind `desk`: none is to stand there
+abbrev pub DeskMisfit : List (List ℕ) → List ℕ → Type 0
+DeskMisfit [] word = ⊥
+DeskMisfit (more ∷ rest) word = word ≡ more
+
 -- the first word that doesn't fit, or the empty text where one is missing
 abbrev pub Misfit : List (List ℕ) → List ℕ → Type 0
 Misfit [] word = word ≡ []
 Misfit (command ∷ rest) word =
-    ((command ≢ codes "put") × (command ≢ codes "get") × (word ≡ command))
+    ((command ≢ codes "put") × (command ≢ codes "get") × (command ≢ codes "desk")
+    × (word ≡ command))
     ⊎ ((command ≡ codes "put") × PutMisfit rest word)
     ⊎ ((command ≡ codes "get") × GetMisfit rest word)
+    ⊎ ((command ≡ codes "desk") × DeskMisfit rest word)
 
 -- reading the words gives the command that they are, or the word that doesn't fit
 abbrev pub ReadsWords : List (List ℕ) → Result Command Status → Type 0
 ReadsWords words (Ok (commands.Put cart)) = ArePut words cart.0
 ReadsWords words (Ok (commands.Get cart number)) = AreGet words cart.0 number
+ReadsWords words (Ok commands.Desk) = AreDesk words
 ReadsWords words (Err (status.Usage word)) = Misfit words word
 ReadsWords words (Err status.Memory) = Unit {0}
 ReadsWords words (Err other) = ⊥
@@ -97,6 +108,14 @@ ReadsFile cart words (Err (status.Usage word)) = FileMisfit words word
 ReadsFile cart words (Err status.Memory) = Unit {0}
 ReadsFile cart words (Err other) = ⊥
 
+-- the same behind `desk`
+abbrev pub ReadsDesk : List (List ℕ) → Result Command Status → Type 0
+ReadsDesk words (Ok commands.Desk) = words ≡ []
+ReadsDesk words (Ok other) = ⊥
+ReadsDesk words (Err (status.Usage word)) = DeskMisfit words word
+ReadsDesk words (Err status.Memory) = Unit {0}
+ReadsDesk words (Err other) = ⊥
+
 -- the status for a word that doesn't fit, or want of memory
 abbrev pub IsMisfit : List ℕ → Status → Type 0
 IsMisfit word (status.Usage shown) = shown ≡ word
@@ -107,6 +126,7 @@ IsMisfit word other = ⊥
 abbrev pub access_of : Command → Access
 access_of (commands.Put cart) = accesses.Writes
 access_of (commands.Get cart number) = accesses.Reads
+access_of commands.Desk = accesses.Writes
 
 -- the words are a command
 abbrev pub AreCommand : List (List ℕ) → Type 0

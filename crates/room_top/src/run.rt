@@ -7,6 +7,7 @@ use crate::Status;
 use crate::get::get;
 use crate::put::put;
 use crate::report::report;
+use crate::serving::serve_desk;
 use crate::words::{Command, read_words};
 use room_base::{Clock, Sink, Source};
 use room_disk::Store;
@@ -53,6 +54,7 @@ fn obey<S: Source, W: Sink, D: Store, C: Clock>(
     match read_words(alloc, words) {
         Ok(Command::Put { cart }) => put(alloc, cart, input, out, disk, clock),
         Ok(Command::Get { cart, number }) => get(alloc, cart, number, out, disk),
+        Ok(Command::Desk) => serve_desk(alloc, input, out, disk, clock),
         Err(status) => status,
     }
 }

@@ -26,6 +26,7 @@ room keeps files on cartridges, which are files of a folder that stand for tapes
 commands:
   put CART        the input becomes the next file of a blank or raw cartridge, 1 to 256
   get CART FILE   a file of a raw cartridge is written, counted from 1
+  desk            the requests of the input are answered, one after the other
 
 The exit status is 0 where all was done; else a line on standard error says why not.
 ";

@@ -4,7 +4,7 @@ ghost use Rattle.room_top.specs.Numbers.{exit_number};
 use room_base::{Items, Refusal};
 
 /// How the program ended. Each has a number, which is the program's exit status.
-#[derive(Debug, PartialEq, Drop)]
+#[derive(Drop)]
 pub enum Status {
     /// The input was read to its end where the command reads it, and all output was written.
     Done,
@@ -18,9 +18,16 @@ pub enum Status {
     WriteFault,
     /// The folder or one of its files failed.
     DiskFault,
+    /// The journal of the catalogue is damaged: the front or the snapshot of the file (place 0), or
+    /// the entry whose gate stands at that place.
+    DamagedJournal { file: u32, place: u64 },
+    /// The bytes of the input from this offset on begin no request.
+    BadInput { offset: u64 },
     /// The clock failed.
     ClockFault,
     Refused(Refusal),
+    /// As many bytes were taken of the input as ever are.
+    InputLimit,
 }
 
 impl Status {
@@ -35,8 +42,11 @@ impl Status {
             Status::ReadFault => 4,
             Status::WriteFault => 5,
             Status::DiskFault => 6,
+            Status::DamagedJournal { .. } => 7,
+            Status::BadInput { .. } => 8,
             Status::ClockFault => 10,
             Status::Refused(_) => 11,
+            Status::InputLimit => 12,
         }
     }
 }

@@ -1,7 +1,7 @@
 ghost use Rattle.std.specs.Prelude.{◌≡◌, ◌≢◌, ◌<◌, ◌^◌, ℕ, decimal, map, string_bytes, MatchOption};
 ghost use Rattle.room_top.specs.Words.{IsCartWord, IsNoCartWord, IsFileWord, IsNoFileWord};
 ghost use Rattle.room_top.specs.Words.{IsMisfit, ReadsPut, ReadsGet, ReadsFile, ReadsWords};
-ghost use Rattle.room_top.specs.Words.{access_of};
+ghost use Rattle.room_top.specs.Words.{access_of, ReadsDesk};
 
 use crate::Status;
 use itoa::Buffer;
@@ -11,12 +11,14 @@ use std::alloc::Global;
 use volume_block::MAX_CART;
 
 /// What the program is asked to do.
-#[derive(Clone, Copy, Debug, PartialEq, Eq)]
+#[derive(Clone, Copy, PartialEq, Eq)]
 pub enum Command {
     /// The input becomes the next file of the cartridge.
     Put { cart: Cart },
     /// The file of the cartridge with this number, counted from 1, is written.
     Get { cart: Cart, number: u64 },
+    /// The requests of the input are answered.
+    Desk,
 }
 
 impl Command {
@@ -27,6 +29,7 @@ impl Command {
         match self {
             Command::Put { .. } => Access::Writes,
             Command::Get { .. } => Access::Reads,
+            Command::Desk => Access::Writes,
         }
     }
 }
@@ -43,6 +46,9 @@ pub fn read_words(alloc: Global, words: &[String]) -> Result<Command, Status>
     }
     if command.as_str() == "get" {
         return read_get(alloc, rest);
+    }
+    if command.as_str() == "desk" {
+        return read_desk(alloc, rest);
     }
     Err(misfit(alloc, command.as_str()))
 }
@@ -87,6 +93,15 @@ fn read_file_of(alloc: Global, cart: Cart, words: &[String]) -> Result<Command, 
         return Err(misfit(alloc, more.as_str()));
     }
     Ok(Command::Get { cart, number })
+}
+
+fn read_desk(alloc: Global, words: &[String]) -> Result<Command, Status>
+    ensures { ReadsDesk (map string_bytes words.now) result }
+{
+    if let Some(more) = words.first() {
+        return Err(misfit(alloc, more.as_str()));
+    }
+    Ok(Command::Desk)
 }
 
 // The cartridge that the word names.

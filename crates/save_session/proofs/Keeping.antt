@@ -209,6 +209,17 @@ module _ (ssids : List Ssid) (sessions : List Session) (kept : AreSessionsKept s
         ∙ cond-false (eq_by_cmp nat_cmp (ssid_of (session_view new)) other) _ _
         (other_number (ssid_of (session_view new)) other (λ e. differs (sym e ∙ sym number))))
 
+    pub room_started : room_for ssid.0 (map room_of (insert sessions at new)) ≡ (room_of new).room
+    room_started =
+        let rooms = map room_of sessions in
+        let views = place_in_views ssids sessions kept ssid.0 (Err at) place in
+        let there = subst (λ n. IsPlace nat_cmp room_ssid n rooms (Err at)) number (place_in_rooms ssids sessions kept ssid.0 (Err at) views) in
+        let put = map-insert room_of sessions at new ∙ put_between nat_cmp_total room_ssid rooms (room_of new) at there in
+        ap (room_for ssid.0) put
+        ∙ ap room_or_none (found_put nat_cmp_total room_ssid (room_of new) ssid.0 rooms
+        ∙ cond-true (eq_by_cmp nat_cmp (ssid_of (session_view new)) ssid.0) _ _
+        (ap (λ n. eq_by_cmp nat_cmp n ssid.0) (sym number) ∙ same_number ssid.0))
+
 -- ---- a drive is left
 
 module _ (drive : ℕ) where

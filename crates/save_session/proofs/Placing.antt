@@ -1,8 +1,8 @@
 -- What a part makes of sections.
-use Rattle.std.proofs.Common.{◌≡◌, ℕ, suc, ◌-◌, ◌<◌, ◌≤◌, Bool, true, false, List, [], ◌∷◌, ◌++◌, length, get_or, set, cond, refl, sym, ap, ◌∙◌, arith}
+use Rattle.std.proofs.Common.{◌≡◌, ℕ, suc, ◌-◌, ◌<◌, Bool, true, false, List, [], ◌∷◌, ◌++◌, length, get_or, set, cond, refl, sym, ap, ◌∙◌, arith}
 use Rattle.std.proofs.lemmas.Bool.{cond-true, cond-false, true≢false}
 use Rattle.media_db.specs.declared.copies.Section.{Section}
-use Rattle.save_session.specs.Parts.{IsSection, AreSectionsFrom, end_from, end_in_file_of, is_same_file, last_block, lengthened, lengthen_last, with_part}
+use Rattle.save_session.specs.Parts.{IsSection, AreSectionsFrom, end_from, end_in_file_of, is_same_file, lengthened, lengthen_last, with_part}
 
 -- ---- in a list
 
@@ -54,34 +54,28 @@ last_ends place (section ∷ []) last some is = ap (λ (s : Section). s.to) (sym
 last_ends place (section ∷ next ∷ sections) last some is =
     last_ends section.to (next ∷ sections) last (omega arith) (is ∙ ap (λ i. get_or (section ∷ next ∷ sections) i last) (back section next sections))
 
-pub last_has_last_block : (sections : List Section) (last : Section) → 0 < length sections → last ≡ get_or sections (length sections - 1) last → last_block sections ≡ last.last
-last_has_last_block [] last some is = absurd (omega arith)
-last_has_last_block (section ∷ []) last some is = ap (λ (s : Section). s.last) (sym is)
-last_has_last_block (section ∷ next ∷ sections) last some is =
-    last_has_last_block (next ∷ sections) last (omega arith) (is ∙ ap (λ i. get_or (section ∷ next ∷ sections) i last) (back section next sections))
-
 -- ---- sections follow each other
 
 module _ (part : Section) (run : IsSection part) where
-  longer_follow : (place : ℕ) (sections : List Section) → AreSectionsFrom place sections → part.from ≡ end_from place sections → end_in_file_of part sections ≡ true
-      → last_block sections ≤ part.first → AreSectionsFrom place (lengthen_last part sections)
-  longer_follow place [] follow next is blocks = tt
-  longer_follow place (section ∷ []) follow next is blocks =
-      (follow.0, record { bytes = omega (arith, follow.1.bytes, run.bytes, next); blocks = omega (arith, follow.1.blocks, run.blocks, blocks) }, tt)
-  longer_follow place (section ∷ other ∷ sections) follow next is blocks =
-      (follow.0, follow.1, longer_follow section.to (other ∷ sections) follow.2 next is blocks)
+  longer_follow : (place : ℕ) (sections : List Section) → AreSectionsFrom place sections → part.from ≡ end_from place sections
+      → AreSectionsFrom place (lengthen_last part sections)
+  longer_follow place [] follow next = tt
+  longer_follow place (section ∷ []) follow next =
+      (follow.0, record { bytes = omega (arith, follow.1.bytes, run.bytes, next); blocks = omega (arith, follow.1.blocks, run.blocks) }, tt)
+  longer_follow place (section ∷ other ∷ sections) follow next =
+      (follow.0, follow.1, longer_follow section.to (other ∷ sections) follow.2 next)
 
   pub one_more_follows : (place : ℕ) (sections : List Section) → AreSectionsFrom place sections → part.from ≡ end_from place sections → AreSectionsFrom place (sections ++ part ∷ [])
   one_more_follows place [] follow next = (next, run, tt)
   one_more_follows place (section ∷ sections) follow next = (follow.0, follow.1, one_more_follows section.to sections follow.2 next)
 
   pub part_follows : (place : ℕ) (sections : List Section) → AreSectionsFrom place sections → part.from ≡ end_from place sections
-      → (end_in_file_of part sections ≡ true → last_block sections ≤ part.first) → AreSectionsFrom place (with_part part sections)
-  part_follows place sections follow next blocks = by (end_in_file_of part sections) refl
+      → AreSectionsFrom place (with_part part sections)
+  part_follows place sections follow next = by (end_in_file_of part sections)
     where
-      by : (one : Bool) → end_in_file_of part sections ≡ one → AreSectionsFrom place (cond one (lengthen_last part sections) (sections ++ part ∷ []))
-      by true is = longer_follow place sections follow next is (blocks is)
-      by false is = one_more_follows place sections follow next
+      by : (one : Bool) → AreSectionsFrom place (cond one (lengthen_last part sections) (sections ++ part ∷ []))
+      by true = longer_follow place sections follow next
+      by false = one_more_follows place sections follow next
 
   longer_ends : (place : ℕ) (sections : List Section) → end_in_file_of part sections ≡ true → end_from place (lengthen_last part sections) ≡ part.to
   longer_ends place [] is = absurd (true≢false (sym is))

@@ -59,7 +59,7 @@ part_is session drive part is next = record {
   read = is.read;
   count = is.count;
   size = is.size;
-  sections = part_follows part next.run 0 session.sections is.sections next.from next.blocks;
+  sections = part_follows part next.run 0 session.sections is.sections next.from;
 }
 
 pub off_is : (session : SessionView) (drive : ℕ) → IsSession session → IsSession (off_drive drive session)

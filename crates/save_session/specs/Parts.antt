@@ -1,6 +1,6 @@
 -- The sections of what a session sent, which grow by the parts that its pieces are placed in.
-use Rattle.std.specs.Prelude.{◌≡◌, ℕ, ◌≤◌, ◌<◌, ◌==◌, Bool, ◌&&◌, true, false, List, [], ◌∷◌, ◌++◌}
-use Rattle.std.specs.Prelude.{if◌then◌else◌}
+use Rattle.std.specs.Prelude.{◌≡◌, ℕ, ◌≤◌, ◌<◌, ◌==◌, Bool, ◌&&◌, false, List, [], ◌∷◌, ◌++◌}
+use Rattle.std.specs.Prelude.{if◌then◌else◌, max, min}
 use Rattle.media_db.specs.declared.copies.Section.{Section}
 
 -- two sections lie in one file of one volume
@@ -13,9 +13,13 @@ end_in_file_of part [] = false
 end_in_file_of part (section ∷ []) = is_same_file section part
 end_in_file_of part (section ∷ next ∷ sections) = end_in_file_of part (next ∷ sections)
 
--- a section with the part behind it
+-- a section with the part behind it: its blocks are those from the least to the greatest of both
 abbrev pub lengthened : Section → Section → Section
-lengthened section part = record section { last = part.last; to = part.to }
+lengthened section part = record section {
+  first = min section.first part.first;
+  last = max section.last part.last;
+  to = part.to;
+}
 
 -- the last section is lengthened by the part
 abbrev pub lengthen_last : Section → List Section → List Section
@@ -52,15 +56,7 @@ end_from place (section ∷ sections) = end_from section.to sections
 abbrev pub end_of : List Section → ℕ
 end_of sections = end_from 0 sections
 
--- the greatest block of the last section; 0 for none
-abbrev pub last_block : List Section → ℕ
-last_block [] = 0
-last_block (section ∷ []) = section.last
-last_block (section ∷ next ∷ sections) = last_block (next ∷ sections)
-
--- A part may follow these sections: it begins where they end, and in the file of the last one it
--- lies in no block before the greatest of that.
+-- a part may follow these sections: it begins where they end
 pub record IsNextPart (part : Section) (sections : List Section) : Type 0 where
   pub from : part.from ≡ end_of sections
   pub run : IsSection part
-  pub blocks : end_in_file_of part sections ≡ true → last_block sections ≤ part.first

@@ -16,6 +16,3 @@ pub use laws::{
     readers_have_the_head, sections_are_the_longest_runs, sessions_stay,
 };
 pub use sessions::Sessions;
-
-#[cfg(test)]
-mod tests;

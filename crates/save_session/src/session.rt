@@ -17,7 +17,7 @@ use sha2::{Digest, Sha256};
 use std::alloc::Global;
 
 /// A save set that is being sent.
-#[derive(Debug, Drop)]
+#[derive(Drop)]
 pub struct Session {
     pub(crate) text: SentText,
     pub(crate) reader: StreamReader,
@@ -34,6 +34,7 @@ impl Session {
         requires { IsHead head }
         ensures view { IfOk result (λ session. session_view session ≡ started head) }
         ensures kept { IfOk result (λ session. IsSessionKept session) }
+        ensures room { IfOk result (λ session. 0 < (room_of session).room) }
     {
         let text = SentText::behind(&head);
         Ok(Session {
@@ -41,7 +42,7 @@ impl Session {
             reader: StreamReader::after(alloc, head)?,
             next: 0,
             hasher: Sha256::new(),
-            sections: Vec::new(alloc),
+            sections: Vec::with_capacity(alloc, 1)?,
             drive: None,
         })
     }
@@ -132,7 +133,8 @@ fn add_part(sections: &mut Vec<Section>, part: Section)
     if end_in_file_of(sections, &part) {
         let at = sections.len() - 1;
         let last = &mut sections[at];
-        last.last = part.last;
+        last.first = last.first.min(part.first);
+        last.last = last.last.max(part.last);
         last.to = part.to;
     } else {
         sections.push(part).unwrap();

@@ -23,7 +23,7 @@ use std::marker::Model;
 
 /// The open sessions. Contracts see what each has sent, where that lies, and how many more sections
 /// it can be given without taking memory.
-#[derive(Debug, Drop)]
+#[derive(Drop)]
 pub struct Sessions {
     /// Those of `sessions`, at the same places.
     ssids: Vec<Ssid>,
@@ -53,7 +53,8 @@ impl Sessions {
         }
     }
 
-    /// Opens the session of a save set, of which nothing is sent yet.
+    /// Opens the session of a save set, of which nothing is sent yet, with room for its first
+    /// section.
     pub fn start(&mut self, head: SetHead) -> Result<(), Memory>
         requires few { length self.old.sessions < 64 }
         requires new { find_session head.ssid.0 self.old.sessions ≡ None }
@@ -61,6 +62,7 @@ impl Sessions {
         ensures ok { OnOk result (self.new.sessions ≡ start_session head self.old.sessions) }
         ensures err { OnErr result (self.new ≡ self.old) }
         ensures rooms { KeepsOtherRooms head.ssid.0 self.old.rooms self.new.rooms }
+        ensures first { OnOk result (0 < room_for head.ssid.0 self.new.rooms) }
     {
         let ssid = head.ssid;
         self.ssids.reserve(1)?;

@@ -168,7 +168,7 @@ first_kind_extends count (byte ∷ bytes) more = kind_extends count (byte ∷ by
 kind-grows : (count : ℕ) → Grows (kind_at count)
 kind-grows count bytes more = record { extends = first_kind_extends count bytes more }
 
-path-grows : (last : List ℕ) → Grows (path_at last)
+pub path-grows : (last : List ℕ) → Grows (path_at last)
 unfolding path_at
 path-grows last bytes more =
     then-grows more _ _ _ (checked-grows _ bytes more _ _ (number-grows 2 bytes more))

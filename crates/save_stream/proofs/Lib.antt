@@ -17,4 +17,5 @@ pub mod Steps
 pub mod Stopping
 pub mod Streams
 pub mod Taking
+pub mod Waiting
 pub mod Whole

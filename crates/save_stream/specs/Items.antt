@@ -1,6 +1,7 @@
 -- What comes next in a stream: a head, an entry up to the bytes of its file, or an end.
-use Rattle.std.specs.Prelude.{◌≡◌, ℕ, ◌-◌, ◌≤◌, Bool, true, false, List, [], ◌∷◌, ◌++◌, length}
-use Rattle.std.specs.Prelude.{Option, Some, None, Result, Ok, Err}
+use Rattle.std.specs.Prelude.{◌≡◌, ℕ, ◌+◌, ◌-◌, ◌<◌, ◌≤◌, Bool, true, false, ◌==◌, List, [], ◌∷◌}
+use Rattle.std.specs.Prelude.{◌++◌, length, Option, Some, None, Result, Ok, Err, if◌then◌else◌}
+use Rattle.byteorder.specs.Endian.{big_number}
 use Rattle.save_stream.specs.declared.entry.IndexEntry.{IndexEntry}
 use Rattle.save_stream.specs.declared.fault.StreamFault.{StreamFault}
 use Rattle.save_stream.specs.declared.fault.StreamFault.TheVariants as faults
@@ -73,6 +74,18 @@ TakesNext old new end bytes (Ok (Some behind)) = TakesItem old new end bytes beh
 TakesNext old new end bytes (Ok None) =
     (item_at old.head old.entries bytes ≡ Err stops.More) × (new ≡ old)
 TakesNext old new end bytes (Err fault) = FaultsAt fault end (item_at old.head old.entries bytes)
+
+-- how many bytes the numbers take of an entry that this byte begins
+abbrev pub numbers_size : ℕ → ℕ
+numbers_size byte = if byte == 0x46 then 16 else (if byte == 0x44 then 8 else 0)
+
+-- The path of the entry that these bytes begin stands whole in the first `judged` of them, and the
+-- numbers behind it aren't complete.
+abbrev pub WantsNumbers : ℕ → List ℕ → Type 0
+WantsNumbers judged [] = ⊥
+WantsNumbers judged (byte ∷ bytes) =
+    (2 ≤ length bytes) × (3 + big_number 2 bytes ≤ judged)
+    × (length bytes < 2 + big_number 2 bytes + numbers_size byte)
 
 -- what it means that bytes which end at byte `end` weren't read to the end of an item
 abbrev pub Stopped : Stop → ℕ → Result (Option ℕ) StreamFault → Type 0

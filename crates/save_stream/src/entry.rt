@@ -8,7 +8,7 @@ pub const MAX_ENTRIES: usize = 1_000_000;
 /// The most bytes of a stream, and so of a file in it.
 pub const MAX_SIZE: u64 = 68_719_476_736;
 
-#[derive(Clone, Copy, Debug, PartialEq, Eq)]
+#[derive(Clone, Copy, PartialEq, Eq)]
 pub enum EntryKind {
     File,
     Folder,
@@ -17,7 +17,7 @@ pub enum EntryKind {
 }
 
 /// An entry of a save set. `mtime` is 0 for `Gone`; `size` and `place` are 0 for all but files.
-#[derive(Debug, PartialEq, Drop)]
+#[derive(Drop)]
 pub struct IndexEntry {
     pub kind: EntryKind,
     pub path: Name,

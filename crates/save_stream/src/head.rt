@@ -5,7 +5,7 @@ use crate::Level;
 use room_base::{Memory, Moment, Name, Ssid};
 
 /// What the head of a stream says of its save set.
-#[derive(Debug, PartialEq, Drop)]
+#[derive(Drop)]
 pub struct SetHead {
     pub ssid: Ssid,
     /// The save set that this one adds to; 0 at level 0 alone.
@@ -25,7 +25,7 @@ pub struct SetHead {
 }
 
 /// The parts of a head, as a head or a record of its save set lends them.
-#[derive(Clone, Copy, Debug)]
+#[derive(Clone, Copy)]
 pub struct HeadParts<'a> {
     pub ssid: Ssid,
     pub base: Ssid,

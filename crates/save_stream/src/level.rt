@@ -7,7 +7,7 @@ pub(crate) const MAX_RANK: u8 = 10;
 
 /// The level of a save: rank 0 is full, 1 to 9 are the numbered ones, and 10 is incremental.
 /// Contracts see it as its rank.
-#[derive(Clone, Copy, Debug, PartialEq, Eq, PartialOrd, Ord)]
+#[derive(Clone, Copy, PartialEq, Eq, PartialOrd, Ord)]
 pub struct Level {
     rank: u8,
 }

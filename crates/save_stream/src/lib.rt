@@ -30,6 +30,3 @@ pub use laws::{
 };
 pub use level::Level;
 pub use reader::StreamReader;
-
-#[cfg(test)]
-mod tests;

@@ -1,8 +1,9 @@
 //! What is read of a stream item by item: a head, entries and an end.
 
-ghost use Rattle.std.specs.Prelude.{◌≡◌, true, false, None, IfOk, IsSome};
+ghost use Rattle.std.specs.Prelude.{◌≡◌, true, false, take, None, Err, IfOk, IsSome};
 ghost use Rattle.save_stream.specs.Reading.{last_path, entry_from, begins_end};
-ghost use Rattle.save_stream.specs.Items.{TakesNext, Stopped};
+ghost use Rattle.save_stream.specs.Items.{TakesNext, Stopped, WantsNumbers, item_at, numbers_size};
+ghost use Rattle.save_stream.specs.declared.stop.Stop.TheVariants as stops;
 ghost use Rattle.save_stream.specs.Texts.{front_from};
 ghost use Rattle.save_stream.specs.View.{idle_reading, KeepsProgress};
 
@@ -10,11 +11,12 @@ use crate::entry_reading::{END_KIND, EntryFront, end_of, front_of};
 use crate::head_reading::head_of;
 use crate::stop::Stop;
 use crate::{EntryKind, IndexEntry, MAX_ENTRIES, SetHead, StreamFault};
+use byteorder::{BigEndian, ByteOrder};
 use room_base::{Memory, Name};
 use std::alloc::Global;
 
 /// What is read of a stream.
-#[derive(Debug, Drop)]
+#[derive(Drop)]
 pub(crate) struct Progress {
     /// How many bytes.
     pub(crate) read: u64,
@@ -44,6 +46,28 @@ impl Progress {
             self.take_end(bytes, end)
         } else {
             self.take_entry(alloc, bytes, end)
+        }
+    }
+
+    /// Takes the item that begins these bytes, as `take_item` does. The first `judged` of them
+    /// were looked at before, and didn't complete it: a path among them isn't judged again.
+    pub(crate) fn take_more(
+        &mut self,
+        alloc: Global,
+        judged: usize,
+        bytes: &[u8],
+        end: u64,
+    ) -> Result<Option<usize>, StreamFault>
+        requires { let first = take judged bytes.now in
+            item_at self.old.head self.old.entries.items first ≡ Err stops.More }
+        ensures read { let old = idle_reading self.old in
+            TakesNext old (idle_reading self.new) end bytes.now result }
+        ensures kept { KeepsProgress self.old self.new }
+    {
+        if self.head.is_some() && wants_numbers(judged, bytes) {
+            Ok(None)
+        } else {
+            self.take_item(alloc, bytes, end)
         }
     }
 
@@ -119,6 +143,31 @@ fn begins_end(bytes: &[u8]) -> bool
     match bytes {
         [first, ..] => *first == END_KIND,
         [] => false,
+    }
+}
+
+// Of the entry that these bytes begin, the path stands whole in the first `judged` of them, and the
+// numbers behind it aren't complete.
+fn wants_numbers(judged: usize, bytes: &[u8]) -> bool
+    ensures { result ≡ true → WantsNumbers judged bytes.now }
+{
+    match bytes {
+        [kind, rest @ ..] if rest.len() >= 2 => {
+            let behind = 2 + usize::from(BigEndian::read_u16(rest));
+            behind < judged && rest.len() < behind + numbers_size(*kind)
+        }
+        _ => false,
+    }
+}
+
+// How many bytes the numbers take of an entry that this byte begins.
+fn numbers_size(kind: u8) -> usize
+    ensures { result ≡ numbers_size kind }
+{
+    match kind {
+        b'F' => 16,
+        b'D' => 8,
+        _ => 0,
     }
 }
 

@@ -16,7 +16,7 @@ use std::alloc::Global;
 use std::marker::Model;
 
 /// Reads the stream of a save set, which may come in any pieces. Contracts see what it has read.
-#[derive(Debug, Drop)]
+#[derive(Drop)]
 pub struct StreamReader {
     alloc: Global,
     pub(crate) state: State,

@@ -18,7 +18,7 @@ const MAX_ITEM: usize = 1043;
 pub(crate) const MAX_PENDING: usize = 2 * MAX_ITEM;
 
 /// What is read of a stream, with the bytes of an item that isn't complete.
-#[derive(Debug, Drop)]
+#[derive(Drop)]
 pub(crate) struct State {
     pub(crate) progress: Progress,
     /// The first `done` bytes are of an item that the piece at hand completed.
@@ -151,11 +151,12 @@ impl State {
         ensures waiting { OnOk result (IsWaiting (reading_of self.new)) }
         ensures kept { Keeps self.old self.new }
     {
+        let judged = self.pending.len() - self.done;
         let count = bytes.len().min(MAX_ITEM);
         self.pending.extend_from_slice(&bytes[..count])?;
         let end = self.progress.read + count as u64;
         let pending = &self.pending[self.done..];
-        match self.progress.take_item(alloc, pending, end) {
+        match self.progress.take_more(alloc, judged, pending, end) {
             Ok(Some(behind)) => {
                 let done = self.pending.len() - behind;
                 self.pending.truncate(done);

@@ -17,6 +17,3 @@ pub use laws::{
     overrides_decide_their_days,
 };
 pub use plan::group_plan;
-
-#[cfg(test)]
-mod tests;

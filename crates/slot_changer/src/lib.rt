@@ -9,6 +9,3 @@ mod mounted;
 
 pub use drives::{Drives, MAX_DRIVE};
 pub use laws::{drives_are_apart, one_pick, pushed_can_be_committed, taken_can_be_pushed};
-
-#[cfg(test)]
-mod tests;

@@ -18,8 +18,3 @@ mod volumes;
 
 pub use decode::read_snapshot;
 pub use laws::{bytes_are_a_snapshot_or_bad, one_spelling, written_snapshots_are_read};
-
-#[cfg(test)]
-mod test_texts;
-#[cfg(test)]
-mod tests;

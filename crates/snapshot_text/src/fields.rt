@@ -7,7 +7,7 @@ use room_rules::{Group, Policy, Pool, Schedule};
 use save_stream::IndexEntry;
 
 /// The resources of a catalogue by their kinds, each in the order of the names.
-#[derive(Debug, Drop)]
+#[derive(Drop)]
 pub struct ResourceLists {
     pub policies: Items<Policy>,
     pub pools: Items<Pool>,
@@ -17,14 +17,14 @@ pub struct ResourceLists {
 }
 
 /// A record, and the index of its save set.
-#[derive(Debug, Drop)]
+#[derive(Drop)]
 pub struct ListedRecord {
     pub row: Record,
     pub index: Items<IndexEntry>,
 }
 
 /// The fields of a snapshot in the order of its bytes.
-#[derive(Debug, Drop)]
+#[derive(Drop)]
 pub struct SnapshotFields {
     /// The number of the last change, and its moment.
     pub number: u64,

@@ -14,7 +14,7 @@ pub const FORM: u8 = 1;
 
 /// What a snapshot is written from. The resources stand in the order of their names, and the slots
 /// in that of their numbers.
-#[derive(Clone, Copy, Debug)]
+#[derive(Clone, Copy)]
 pub struct SnapshotParts<'a> {
     /// The number of the last change, and its moment.
     pub number: u64,
@@ -33,7 +33,7 @@ pub struct SnapshotParts<'a> {
 }
 
 /// What a snapshot is read to.
-#[derive(Debug, Drop)]
+#[derive(Drop)]
 pub struct Snapshot {
     /// The number of the last change, and its moment.
     pub number: u64,

@@ -118,10 +118,15 @@ fn is_padded(bytes: &[u8]) -> bool
     used <= bytes.len() - PAYLOAD_START && are_zeros(&bytes[PAYLOAD_START + used..])
 }
 
+// Whether the first byte is zero, and each other byte the same as the one before it: the slices are
+// compared many bytes at a time.
 fn are_zeros(bytes: &[u8]) -> bool
     ensures { IsTrue result ↔ All (λ byte. byte ≡ 0) bytes.now }
 {
-    bytes.iter().all(|byte| *byte == 0)
+    match bytes {
+        [] => true,
+        [first, rest @ ..] => *first == 0 && rest == &bytes[..rest.len()],
+    }
 }
 
 fn has_digest(bytes: &[u8]) -> bool

@@ -14,7 +14,7 @@ pub const MAX_CAPACITY: u32 = 1_000_000;
 pub const FIRST_RAW_VOLID: u64 = 1 << 63;
 
 /// What a volume's label says. The bytes of `pool` behind its first `pool_length` are zero.
-#[derive(Clone, Copy, Debug, PartialEq, Eq)]
+#[derive(Clone, Copy, PartialEq, Eq)]
 pub struct Label {
     pub volid: Volid,
     pub cart: Cart,

@@ -25,6 +25,3 @@ pub use label::{FIRST_RAW_VOLID, Label, MAX_CAPACITY, MAX_CART, min_capacity};
 pub use laws::{joined_chunks, one_block, one_list_of_chunks};
 pub use layout::{CHUNK_HEAD_SIZE, PAYLOAD_START};
 pub use units::{is_units, size_told};
-
-#[cfg(test)]
-mod tests;

@@ -17,6 +17,3 @@ pub use marks::{
 };
 pub use reading::{ReadFault, judge_block, read_block, read_blocks};
 pub use standing::{a_file_adds_its_chunks, chunks_stand_in_files, one_chunk_stands_in_a_place};
-
-#[cfg(test)]
-mod tests;

@@ -22,7 +22,7 @@ use room_disk::Store;
 use volume_block::{BLOCK_SIZE, Block};
 
 /// Why a cartridge isn't mounted.
-#[derive(Clone, Copy, Debug, PartialEq, Eq)]
+#[derive(Clone, Copy, PartialEq, Eq)]
 pub enum MountFault {
     /// It is blank, or has no label.
     Unlabelled,
@@ -45,7 +45,7 @@ impl From<Failed> for MountFault {
 }
 
 /// Why a walk over marks doesn't come to their end.
-#[derive(Clone, Copy, Debug, PartialEq, Eq)]
+#[derive(Clone, Copy, PartialEq, Eq)]
 pub enum WalkFault {
     /// The mark with this number isn't valid, has other units, or isn't there.
     BadMark { number: u64 },
@@ -65,14 +65,14 @@ impl From<Failed> for WalkFault {
 }
 
 /// Where a committed file stands: its mark, behind which `count` data blocks are.
-#[derive(Clone, Copy, Debug, PartialEq, Eq)]
+#[derive(Clone, Copy, PartialEq, Eq)]
 pub struct FilePlace {
     pub mark: u64,
     pub count: u32,
 }
 
 /// What a walk over the marks of a cartridge has found.
-#[derive(Clone, Copy, Debug, PartialEq, Eq)]
+#[derive(Clone, Copy, PartialEq, Eq)]
 pub struct MarkWalk {
     /// How many files there are.
     pub files: u64,
@@ -83,7 +83,7 @@ pub struct MarkWalk {
 }
 
 /// What stands at a mark place.
-#[derive(Clone, Copy, Debug, PartialEq, Eq)]
+#[derive(Clone, Copy, PartialEq, Eq)]
 pub enum MarkPlace {
     /// The files end here.
     Closed,
@@ -175,9 +175,10 @@ fn walk_for<D: Store>(
 {
     let file = cart.0 + 1;
     let blocks = block_count(store.len(file)?);
+    let mut block = [0; BLOCK_SIZE];
     let mut walk = MarkWalk::first();
     while walk.end < blocks {
-        match read_mark(store, cart, volid, units, walk.end)? {
+        match read_mark_into(store, cart, volid, units, walk.end, &mut block)? {
             MarkPlace::Closed => return Ok(walk),
             MarkPlace::Bad => return Err(WalkFault::BadMark { number: walk.end }),
             MarkPlace::Open { count } => walk = walk.past(count, units, wanted),
@@ -253,7 +254,27 @@ pub fn read_mark<D: Store>(
         (block_at ((D.view store.old).reads (cart_file cart.0)) number) volid.0 units number)) }
 {
     let mut block = [0; BLOCK_SIZE];
-    let count = read_front(store, cart.0 + 1, number, &mut block)?;
+    read_mark_into(store, cart, volid, units, number, &mut block)
+}
+
+// The same with a block to read into, which a walk lends to each of its readings.
+fn read_mark_into<D: Store>(
+    store: &mut D,
+    cart: Cart,
+    volid: Volid,
+    units: u32,
+    number: u64,
+    block: &mut [u8; BLOCK_SIZE],
+) -> Result<MarkPlace, Failed>
+    requires { IsCart cart.0 }
+    ensures cause { FileCause (cart_file cart.0) (D.view store.old) (D.view store.new) result }
+    ensures tells { (D.view store.new).tells ≡ (D.view store.old).tells }
+    ensures quiet { Told (D.view store.old).tells (Quiet (D.view store.old) (D.view store.new)) }
+    ensures count { IfOk result HasCount }
+    ensures found { Told (D.view store.old).tells (IfOk result (FindsMark
+        (block_at ((D.view store.old).reads (cart_file cart.0)) number) volid.0 units number)) }
+{
+    let count = read_front(store, cart.0 + 1, number, block)?;
     Ok(mark_place_of(&block[..count], volid, units, number))
 }
 

@@ -1,6 +1,6 @@
 use Rattle.std.proofs.Common.{take}
 use Rattle.cat_journal.specs.Entries.{payloads_of}
-use Rattle.journal_replay.specs.Entries.{Replays}
+use Rattle.room_effects.specs.Replaying.{Replays}
 use Rattle.journal_replay.proofs.entries.replay_entries.Given as goal
 
 abbrev pub invariant-loop-entry : goal.invariant-loop-entry

@@ -27,4 +27,4 @@ returns-in-Ok-clause-does g c =
     does_behind {T = Unit {0}} {U = Unit {0}} c.args.snapshot.now (Enter c.args.m c.args.change ∷ []) c.in-Ok.field-0 c.enter.result
     c.args.room.now.room c.turn_over.new.self.room c.enter.new.self.room
     (g.D.Store.view c.args.store.now) (g.D.Store.view c.turn_over.new.store) (g.D.Store.view c.enter.new.store)
-    c.requires.prepared.file.0 c.requires.prepared.file.1 c.in-Ok.ensures.does c.enter.ensures.does
+    c.requires.prepared.file.0 c.requires.prepared.file.1.text c.in-Ok.ensures.does c.enter.ensures.does

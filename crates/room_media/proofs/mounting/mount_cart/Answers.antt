@@ -28,11 +28,12 @@ returns-in-Ok-found_own g c =
     c.in-Ok-found_own.ensures ∙ ap (λ (v : Option VolumeRec). found_own v c.args.cart found) c.volume_on.ensures in (
       found,
       answer,
+      c.mount_volume.ensures.1,
       follows_behind c.args.cart.0 (SeenLabel found) room {T = Found} found
           (checked {X = Unit {0}} (found_own volume c.args.cart found) (λ done. volume_plan c.args.drive answer volume c.args.cart)) c.mount_volume.result new before mid now
           c.in-Ok.ensures.seen
           (follows_checked {X = Unit {0}} (found_own volume c.args.cart found) (λ done. volume_plan c.args.drive answer volume c.args.cart) tt c.mount_volume.result room new mid now is
-          c.mount_volume.ensures.1),
+          c.mount_volume.ensures.2),
     )
 
 pub returns-in-Err-found_own : goal.returns-in-Err-found_own
@@ -48,6 +49,7 @@ returns-in-Err-found_own g c =
     c.in-Err-found_own.ensures ∙ ap (λ (v : Option VolumeRec). found_own v c.args.cart found) c.volume_on.ensures in (
       found,
       answer,
+      tt,
       follows_behind c.args.cart.0 (SeenLabel found) room {T = Found} found
           (checked {X = Unit {0}} (found_own volume c.args.cart found) (λ done. volume_plan c.args.drive answer volume c.args.cart)) (Refused refusal) room before mid mid
           c.in-Ok.ensures.seen
@@ -61,6 +63,7 @@ returns-in-Err g c =
     let volume = volume_on c.args.cart.0 room.catalogue.volumes in (
       founds.Blank,
       answer,
+      tt,
       follows_unread c.args.cart.0 (SeenLabel founds.Blank) room {T = Found}
           (checked {X = Unit {0}} (found_own volume c.args.cart founds.Blank) (λ done. volume_plan c.args.drive answer volume c.args.cart)) c.in-Err.fault room
           (g.D.Store.view c.args.store.now) (g.D.Store.view c.look_for_label.new.store) (c.in-Err.ensures.failed (SeenLabel founds.Blank)),

@@ -34,6 +34,7 @@ returns-in-Ok-put_in g c =
     c.requires.cart c.requires.in_no_drive c.in-Ok.ensures.cart c.in-Ok.ensures.label c.in-Ok.ensures.mark in
     let reply = Done (Mounted c.args.drive mounted.label.volid) in (
       answer,
+      c.in-Ok.ensures.cart,
       follows_behind c.args.cart.0 (SeenVolume answer) room {T = Result Volume MountFault} answer
           (checked {X = Volume} (mounted_own volume c.args.cart answer) (put_in_plan c.args.drive)) reply new before mid mid c.in-Ok.ensures.seen
           (follows_checked {X = Volume} (mounted_own volume c.args.cart answer) (put_in_plan c.args.drive) mounted reply room new mid mid is
@@ -51,6 +52,7 @@ returns-in-Err-put_in g c =
     let rest = checked {X = Volume} (mounted_own volume c.args.cart answer) (put_in_plan c.args.drive) in
     let F : RoomView → Type 0 = λ now. Follows rest (Refused NoMemory) room now mid mid in (
       answer,
+      c.in-Ok.ensures.cart,
       follows_behind c.args.cart.0 (SeenVolume answer) room {T = Result Volume MountFault} answer rest (Refused NoMemory) c.put_in.new.self.room before mid mid
           c.in-Ok.ensures.seen (subst F (sym c.in-Err-put_in.ensures.kept) (follows_no_memory rest room mid)),
     )
@@ -61,6 +63,7 @@ returns-in-Err g c =
     let answer : Result Volume MountFault = Err mounts.Unlabelled in
     let volume = volume_on c.args.cart.0 room.catalogue.volumes in (
       answer,
+      tt,
       follows_unread c.args.cart.0 (SeenVolume answer) room {T = Result Volume MountFault}
           (checked {X = Volume} (mounted_own volume c.args.cart answer) (put_in_plan c.args.drive)) c.in-Err.fault room
           (g.D.Store.view c.args.store.now) (g.D.Store.view c.look_for_volume.new.store) (c.in-Err.ensures.failed (SeenVolume answer)),

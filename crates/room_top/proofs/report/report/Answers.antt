@@ -14,3 +14,9 @@ returns-in-WriteFault-clause-reported g c = λ told. rw c.in-WriteFault.is (c.wr
 
 pub returns-in-ClockFault-clause-reported : goal.returns-in-ClockFault-clause-reported
 returns-in-ClockFault-clause-reported g c = λ told. rw c.in-ClockFault.is (c.write_line-in-ClockFault.ensures.reported told)
+
+pub returns-in-DamagedJournal-clause-reported : goal.returns-in-DamagedJournal-clause-reported
+returns-in-DamagedJournal-clause-reported g c = λ told. rw c.in-DamagedJournal.is (c.report_damaged.ensures.reported told)
+
+pub returns-in-InputLimit-clause-reported : goal.returns-in-InputLimit-clause-reported
+returns-in-InputLimit-clause-reported g c = λ told. rw c.in-InputLimit.is (c.write_line-in-InputLimit.ensures.reported told)

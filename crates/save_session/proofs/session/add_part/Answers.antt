@@ -8,4 +8,4 @@ returns-then-end_in_file_of-clause-items c =
     let sections = c.args.sections.now in
     let one = ap (end_in_file_of c.args.part) (sym c.deref.ensures.value) ∙ sym c.end_in_file_of.ensures ∙ c.if-end_in_file_of.true in
     let place : c.len-at.result - 1 ≡ length sections.items - 1 = ap (λ n. n - 1) (c.len-at.ensures ∙ sections.ok.0) in
-    rw place (part_joins sections.items c.index_mut-last.result.now c.args.part one (rw place at c.index_mut-last.ensures.value))
+    rw (place, c.min-last.ensures, c.max-last.ensures) (part_joins sections.items c.index_mut-last.result.now c.args.part one (rw place at c.index_mut-last.ensures.value))

@@ -19,7 +19,7 @@ returns-in-Closed-clause-walked g c = λ told.
     let told_here : IsTrue here.tells = rw c.loop-walk.invariant.1 told_start in
     let same : start.reads file ≡ old.reads file = (c.in_ok-len.ensures.quiet told).reads file in
     let kept : here.reads file ≡ start.reads file = (c.loop-walk.invariant.2 told_start).reads file in
-    let found = rw c.in-Closed.is at (c.in_ok-read_mark.ensures.found told_here) in
+    let found = rw c.in-Closed.is at (c.in_ok-read_mark_into.ensures.found told_here) in
     let inside : 4096 * walk.end < length (start.reads file) =
     omega (arith, c.loop-walk-test.true, c.block_count-blocks.ensures.no_more, c.in_ok-len.ensures.length told, ap length same) in
     let P : List ℕ → Type 0 = λ bytes. WalksOver bytes c.args.volid.0 c.args.units c.args.wanted walk in
@@ -37,7 +37,7 @@ returns-in-Bad-clause-walked g c = λ told.
     let told_here : IsTrue here.tells = rw c.loop-walk.invariant.1 told_start in
     let same : start.reads file ≡ old.reads file = (c.in_ok-len.ensures.quiet told).reads file in
     let kept : here.reads file ≡ start.reads file = (c.loop-walk.invariant.2 told_start).reads file in
-    let found = rw c.in-Bad.is at (c.in_ok-read_mark.ensures.found told_here) in
+    let found = rw c.in-Bad.is at (c.in_ok-read_mark_into.ensures.found told_here) in
     let P : List ℕ → Type 0 = λ bytes. StopsAt bytes c.args.volid.0 c.args.units walk.end in
     let Bad : List ℕ → Type 0 = λ bytes. FindsMark (block_at bytes walk.end) c.args.volid.0 c.args.units walk.end places.Bad in
     subst P same (ends_bad_or_short (start.reads file) c.args.volid.0 c.args.units c.args.wanted walk (c.loop-walk.invariant.4 told_start) (subst Bad kept found))
@@ -47,19 +47,19 @@ loop-walk-preserved g c =
     let file = cart_file c.args.cart.0 in
     let start = g.D.Store.view c.len.new.self in
     let here = g.D.Store.view c.loop-walk.store in
-    let new = g.D.Store.view c.read_mark.new.store in
+    let new = g.D.Store.view c.read_mark_into.new.store in
     let walk = c.loop-walk.walk in
     let inside : walk.end < 2 ^ 52 = omega (arith, c.loop-walk-test.true, c.block_count-blocks.ensures.no_more) in
-    let count = rw c.in-Open.is at c.in_ok-read_mark.ensures.count in (
-      λ other. omega (arith, c.loop-walk.invariant.0 other, c.in_ok-read_mark.ensures.cause.later other),
-      c.in_ok-read_mark.ensures.tells ∙ c.loop-walk.invariant.1,
+    let count = rw c.in-Open.is at c.in_ok-read_mark_into.ensures.count in (
+      λ other. omega (arith, c.loop-walk.invariant.0 other, c.in_ok-read_mark_into.ensures.cause.later other),
+      c.in_ok-read_mark_into.ensures.tells ∙ c.loop-walk.invariant.1,
       λ told. (let told_here : IsTrue here.tells = rw c.loop-walk.invariant.1 told in
-          quiet_then start here new (c.loop-walk.invariant.2 told) (c.in_ok-read_mark.ensures.quiet told_here)),
+          quiet_then start here new (c.loop-walk.invariant.2 told) (c.in_ok-read_mark_into.ensures.quiet told_here)),
       range_past c.args.units c.in-Open.count walk c.past-walk.result c.args.wanted inside c.requires.units c.loop-walk.invariant.3 count
           c.past-walk.ensures.files c.past-walk.ensures.end c.past-walk.ensures.this c.past-walk.ensures.other,
       λ told. (let told_here : IsTrue here.tells = rw c.loop-walk.invariant.1 told in
           let kept : here.reads file ≡ start.reads file = (c.loop-walk.invariant.2 told).reads file in
-          let found = rw c.in-Open.is at (c.in_ok-read_mark.ensures.found told_here) in
+          let found = rw c.in-Open.is at (c.in_ok-read_mark_into.ensures.found told_here) in
           let Found : List ℕ → Type 0 = λ bytes. FindsMark (block_at bytes walk.end) c.args.volid.0 c.args.units walk.end (places.Open c.in-Open.count) in
           goes_on (start.reads file) c.args.volid.0 c.args.units c.args.wanted c.in-Open.count walk c.past-walk.result (c.loop-walk.invariant.4 told)
           (subst Found kept found) c.past-walk.ensures.files c.past-walk.ensures.end c.past-walk.ensures.this c.past-walk.ensures.other),

@@ -9,16 +9,16 @@ use Rattle.save_stream.proofs.state.State.take_pending.Goals as goal
 
 pub overflow_sub-done : goal.overflow_sub-done
 overflow_sub-done c =
-    let took = pending-took (idle_reading c.args.self.now.progress) (idle_reading c.take_item.new.self) c.args.self.now.pending.items c.args.bytes.now
+    let took = pending-took (idle_reading c.args.self.now.progress) (idle_reading c.take_more.new.self) c.args.self.now.pending.items c.args.bytes.now
     (take (length c.deref.result.now - c.args.self.now.done) (drop c.args.self.now.done c.deref.result.now)) [] c.args.self.now.done c.min-count.result (c.args.self.now.progress.read + c.min-count.result) c.in-Ok-Some.behind
     (omega (arith, c.requires.some_pending)) (omega (arith, c.min-count.ensures)) (take-all (drop c.args.self.now.done c.deref.result.now) _ (omega (arith, length-drop c.args.self.now.done c.deref.result.now))
     ∙ ap (drop c.args.self.now.done) (c.deref.ensures.value ∙ c.in_ok-extend_from_slice.ensures.items)) refl c.requires.waiting c.requires.going.0 c.requires.going.1
     (λ i. omega (arith, c.type_inv.bytes i)) refl (rw c.in-Ok-Some.field-0-is at c.in-Ok-Some.ensures.read) in
-    omega (arith, took.0, c.len.ensures, c.in_ok-extend_from_slice.ensures.len, c.min-count.ensures, length-take c.min-count.result c.args.bytes.now)
+    omega (arith, took.0, c.len-in-Ok-Some.ensures, c.in_ok-extend_from_slice.ensures.len, c.min-count.ensures, length-take c.min-count.result c.args.bytes.now)
 
 pub overflow_sub-result : goal.overflow_sub-result
 overflow_sub-result c =
-    let took = pending-took (idle_reading c.args.self.now.progress) (idle_reading c.take_item.new.self) c.args.self.now.pending.items c.args.bytes.now
+    let took = pending-took (idle_reading c.args.self.now.progress) (idle_reading c.take_more.new.self) c.args.self.now.pending.items c.args.bytes.now
     (take (length c.deref.result.now - c.args.self.now.done) (drop c.args.self.now.done c.deref.result.now)) [] c.args.self.now.done c.min-count.result (c.args.self.now.progress.read + c.min-count.result) c.in-Ok-Some.behind
     (omega (arith, c.requires.some_pending)) (omega (arith, c.min-count.ensures)) (take-all (drop c.args.self.now.done c.deref.result.now) _ (omega (arith, length-drop c.args.self.now.done c.deref.result.now))
     ∙ ap (drop c.args.self.now.done) (c.deref.ensures.value ∙ c.in_ok-extend_from_slice.ensures.items)) refl c.requires.waiting c.requires.going.0 c.requires.going.1
@@ -27,41 +27,41 @@ overflow_sub-result c =
 
 pub returns-in-Ok-Some-clause-read : goal.returns-in-Ok-Some-clause-read
 returns-in-Ok-Some-clause-read c =
-    let took = pending-took (idle_reading c.args.self.now.progress) (idle_reading c.take_item.new.self) c.args.self.now.pending.items c.args.bytes.now
+    let took = pending-took (idle_reading c.args.self.now.progress) (idle_reading c.take_more.new.self) c.args.self.now.pending.items c.args.bytes.now
     (take (length c.deref.result.now - c.args.self.now.done) (drop c.args.self.now.done c.deref.result.now)) [] c.args.self.now.done c.min-count.result (c.args.self.now.progress.read + c.min-count.result) c.in-Ok-Some.behind
     (omega (arith, c.requires.some_pending)) (omega (arith, c.min-count.ensures)) (take-all (drop c.args.self.now.done c.deref.result.now) _ (omega (arith, length-drop c.args.self.now.done c.deref.result.now))
     ∙ ap (drop c.args.self.now.done) (c.deref.ensures.value ∙ c.in_ok-extend_from_slice.ensures.items)) refl c.requires.waiting c.requires.going.0 c.requires.going.1
     (λ i. omega (arith, c.type_inv.bytes i)) refl (rw c.in-Ok-Some.field-0-is at c.in-Ok-Some.ensures.read) in
-    let none : drop (c.len.result - c.in-Ok-Some.behind) c.truncate.new.self.items ≡ [] =
+    let none : drop (c.len-in-Ok-Some.result - c.in-Ok-Some.behind) c.truncate.new.self.items ≡ [] =
     drop_of_length-le c.truncate.new.self.items
-    (omega (arith, ap (λ (t : List ℕ). length t) c.truncate.ensures.items, length-take (c.len.result - c.in-Ok-Some.behind) c.extend_from_slice.new.self.items)) in
-    subst (λ (q : List ℕ). Advances (reading_of c.args.self.now) (record (idle_reading c.take_item.new.self) { pending = q }) c.args.bytes.now (c.min-count.result - c.in-Ok-Some.behind)) (sym none)
+    (omega (arith, ap (λ (t : List ℕ). length t) c.truncate.ensures.items, length-take (c.len-in-Ok-Some.result - c.in-Ok-Some.behind) c.extend_from_slice.new.self.items)) in
+    subst (λ (q : List ℕ). Advances (reading_of c.args.self.now) (record (idle_reading c.take_more.new.self) { pending = q }) c.args.bytes.now (c.min-count.result - c.in-Ok-Some.behind)) (sym none)
     took.1
 
 pub returns-in-Ok-Some-clause-waiting : goal.returns-in-Ok-Some-clause-waiting
 returns-in-Ok-Some-clause-waiting c =
-    let took = pending-took (idle_reading c.args.self.now.progress) (idle_reading c.take_item.new.self) c.args.self.now.pending.items c.args.bytes.now
+    let took = pending-took (idle_reading c.args.self.now.progress) (idle_reading c.take_more.new.self) c.args.self.now.pending.items c.args.bytes.now
     (take (length c.deref.result.now - c.args.self.now.done) (drop c.args.self.now.done c.deref.result.now)) [] c.args.self.now.done c.min-count.result (c.args.self.now.progress.read + c.min-count.result) c.in-Ok-Some.behind
     (omega (arith, c.requires.some_pending)) (omega (arith, c.min-count.ensures)) (take-all (drop c.args.self.now.done c.deref.result.now) _ (omega (arith, length-drop c.args.self.now.done c.deref.result.now))
     ∙ ap (drop c.args.self.now.done) (c.deref.ensures.value ∙ c.in_ok-extend_from_slice.ensures.items)) refl c.requires.waiting c.requires.going.0 c.requires.going.1
     (λ i. omega (arith, c.type_inv.bytes i)) refl (rw c.in-Ok-Some.field-0-is at c.in-Ok-Some.ensures.read) in
-    let none : drop (c.len.result - c.in-Ok-Some.behind) c.truncate.new.self.items ≡ [] =
+    let none : drop (c.len-in-Ok-Some.result - c.in-Ok-Some.behind) c.truncate.new.self.items ≡ [] =
     drop_of_length-le c.truncate.new.self.items
-    (omega (arith, ap (λ (t : List ℕ). length t) c.truncate.ensures.items, length-take (c.len.result - c.in-Ok-Some.behind) c.extend_from_slice.new.self.items)) in
-    subst (λ (q : List ℕ). IsWaiting (record (idle_reading c.take_item.new.self) { pending = q })) (sym none) took.2
+    (omega (arith, ap (λ (t : List ℕ). length t) c.truncate.ensures.items, length-take (c.len-in-Ok-Some.result - c.in-Ok-Some.behind) c.extend_from_slice.new.self.items)) in
+    subst (λ (q : List ℕ). IsWaiting (record (idle_reading c.take_more.new.self) { pending = q })) (sym none) took.2
 
 pub returns-in-Ok-Some-clause-kept : goal.returns-in-Ok-Some-clause-kept
 returns-in-Ok-Some-clause-kept c =
-    let took = pending-took (idle_reading c.args.self.now.progress) (idle_reading c.take_item.new.self) c.args.self.now.pending.items c.args.bytes.now
+    let took = pending-took (idle_reading c.args.self.now.progress) (idle_reading c.take_more.new.self) c.args.self.now.pending.items c.args.bytes.now
     (take (length c.deref.result.now - c.args.self.now.done) (drop c.args.self.now.done c.deref.result.now)) [] c.args.self.now.done c.min-count.result (c.args.self.now.progress.read + c.min-count.result) c.in-Ok-Some.behind
     (omega (arith, c.requires.some_pending)) (omega (arith, c.min-count.ensures)) (take-all (drop c.args.self.now.done c.deref.result.now) _ (omega (arith, length-drop c.args.self.now.done c.deref.result.now))
     ∙ ap (drop c.args.self.now.done) (c.deref.ensures.value ∙ c.in_ok-extend_from_slice.ensures.items)) refl c.requires.waiting c.requires.going.0 c.requires.going.1
     (λ i. omega (arith, c.type_inv.bytes i)) refl (rw c.in-Ok-Some.field-0-is at c.in-Ok-Some.ensures.read) in
     record {
       progress = c.in-Ok-Some.ensures.kept;
-      pending = kept-front c.args.self.now.pending.items _ c.truncate.new.self.items (c.len.result - c.in-Ok-Some.behind)
-          (omega (arith, took.0, c.len.ensures, c.in_ok-extend_from_slice.ensures.len, c.min-count.ensures, length-take c.min-count.result c.args.bytes.now))
-          (c.truncate.ensures.items ∙ ap (take (c.len.result - c.in-Ok-Some.behind)) c.in_ok-extend_from_slice.ensures.items);
+      pending = kept-front c.args.self.now.pending.items _ c.truncate.new.self.items (c.len-in-Ok-Some.result - c.in-Ok-Some.behind)
+          (omega (arith, took.0, c.len-in-Ok-Some.ensures, c.in_ok-extend_from_slice.ensures.len, c.min-count.ensures, length-take c.min-count.result c.args.bytes.now))
+          (c.truncate.ensures.items ∙ ap (take (c.len-in-Ok-Some.result - c.in-Ok-Some.behind)) c.in_ok-extend_from_slice.ensures.items);
     }
 
 pub returns-in-Ok-None-clause-read : goal.returns-in-Ok-None-clause-read

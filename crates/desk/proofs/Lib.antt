@@ -1,0 +1,9 @@
+pub mod Reading
+pub mod Taken
+pub mod Exchanges
+pub mod SoFar
+pub mod Opened
+pub mod Ending
+pub mod Turning
+pub mod Running
+pub mod Crashes

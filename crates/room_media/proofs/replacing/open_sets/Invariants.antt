@@ -1,6 +1,0 @@
-use Rattle.std.proofs.Common.{◌≡◌, map, take}
-use Rattle.room_media.specs.Labelling.{open_set}
-use Rattle.room_media.proofs.replacing.open_sets.Given as goal
-
-abbrev pub invariant-loop-ssid : goal.invariant-loop-ssid
-invariant-loop-ssid l = l.sets.items ≡ map (open_set l.room.room) (take l.ssid-index l.ssid-items)

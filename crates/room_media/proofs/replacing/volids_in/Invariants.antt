@@ -1,6 +1,0 @@
-use Rattle.std.proofs.Common.{◌≡◌, map, take}
-use Rattle.room_media.specs.Labelling.{volid_of}
-use Rattle.room_media.proofs.replacing.volids_in.Given as goal
-
-abbrev pub invariant-loop-section : goal.invariant-loop-section
-invariant-loop-section l = l.volids.items ≡ map volid_of (take l.section-index l.sections)

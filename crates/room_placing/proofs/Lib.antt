@@ -1,0 +1,4 @@
+mod Lying
+mod Pushing
+mod Placed
+mod Between

@@ -1,0 +1,4 @@
+mod Quieting
+mod Amendable
+mod Purgeable
+mod PurgePlan

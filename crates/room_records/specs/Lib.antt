@@ -1,0 +1,4 @@
+pub mod Showing
+pub mod Amending
+pub mod Deleting
+pub mod Purging

@@ -1,0 +1,12 @@
+pub mod Checks
+pub mod Numbers
+pub mod Heads
+pub mod Opening
+pub mod Recording
+pub mod Abandoning
+pub mod Reading
+pub mod Names
+pub mod Groups
+pub mod PoolNames
+pub mod Planned
+pub mod Turning

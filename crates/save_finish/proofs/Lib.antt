@@ -1,0 +1,10 @@
+pub mod Ended
+pub mod Recorded
+pub mod EntryLengths
+pub mod IndexParts
+pub mod Commits
+pub mod Entering
+pub mod Following
+pub mod Waiting
+pub mod Planning
+pub mod Handing
