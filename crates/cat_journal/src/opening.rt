@@ -35,7 +35,7 @@ pub struct Opened {
 }
 
 /// Why a journal can't be opened.
-#[derive(Clone, Copy, PartialEq, Eq)]
+#[derive(Clone, Copy)]
 pub enum OpenFault {
     /// The front of the file is damaged (place 0), or the entry whose gate stands at that place.
     Damaged { file: u32, place: u64 },

@@ -27,7 +27,7 @@ impl Client {
 }
 
 /// What a resource is. A resource is known by its kind and its name.
-#[derive(Clone, Copy, PartialEq, Eq)]
+#[derive(Clone, Copy)]
 pub enum ResourceKind {
     Policy,
     Pool,

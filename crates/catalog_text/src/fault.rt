@@ -2,7 +2,7 @@ use room_base::Memory;
 use std::alloc::{AllocError, AllocFailed};
 
 /// Why bytes aren't read as fields.
-#[derive(Clone, Copy, PartialEq, Eq)]
+#[derive(Clone, Copy)]
 pub enum FieldFault {
     /// The first field that isn't allowed begins `behind` bytes before the end.
     Bad { behind: usize },
@@ -10,7 +10,7 @@ pub enum FieldFault {
 }
 
 /// Why bytes aren't decoded.
-#[derive(Clone, Copy, PartialEq, Eq)]
+#[derive(Clone, Copy)]
 pub enum DecodeFault {
     /// The first field that isn't allowed begins at `place` of the bytes. Bytes behind the last
     /// field are one, and so is a field that the bytes end in.

@@ -9,7 +9,7 @@ use room_base::Volid;
 
 /// Where a chunk of a copy stands: `length` bytes of its stream from `offset` on, in a block of a
 /// volume, from the block's byte `start` on. `mark` is the mark place of the block's file.
-#[derive(Clone, Copy, PartialEq, Eq)]
+#[derive(Clone, Copy)]
 pub struct Placed {
     pub volid: Volid,
     pub block: u64,
@@ -20,7 +20,7 @@ pub struct Placed {
 }
 
 /// What the chunks of a copy make of its stream.
-#[derive(Clone, Copy, PartialEq, Eq)]
+#[derive(Clone, Copy)]
 pub enum Tiling {
     /// They follow each other from 0 on, up to this length.
     Whole { length: u64 },

@@ -5,7 +5,7 @@ use room_base::Ssid;
 use save_stream::{EntryKind, IndexEntry};
 
 /// What a path shows in the view of a chain. `size` and `place` are 0 for folders.
-#[derive(Clone, Copy, PartialEq, Eq)]
+#[derive(Clone, Copy)]
 pub struct Seen {
     /// The save set whose entry decides.
     pub owner: Ssid,

@@ -8,7 +8,7 @@ use room_base::{Memory, Ssid};
 use std::alloc::{AllocFailed, Global};
 
 /// Why a set has no chain.
-#[derive(Clone, Copy, PartialEq, Eq)]
+#[derive(Clone, Copy)]
 pub enum ChainFault {
     /// This set has no complete record.
     BaseGone(Ssid),

@@ -1,5 +1,5 @@
 /// How a desk ends.
-#[derive(Clone, Copy, PartialEq, Eq)]
+#[derive(Clone, Copy)]
 pub enum DeskEnd {
     /// The input was read to its end, and all replies were written.
     Done,

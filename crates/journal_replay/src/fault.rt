@@ -2,7 +2,7 @@ use cat_journal::OpenFault;
 use room_base::Memory;
 
 /// Why a journal can't be replayed.
-#[derive(Clone, Copy, PartialEq, Eq)]
+#[derive(Clone, Copy)]
 pub enum ReplayFault {
     /// The front or the snapshot of the file is damaged (place 0), or the entry whose gate stands at
     /// that place.

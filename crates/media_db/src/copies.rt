@@ -4,7 +4,7 @@ use room_base::{CopyNo, Items, Memory, Volid};
 use std::alloc::Global;
 
 /// A run of a save set's stream in one file of a volume.
-#[derive(Clone, Copy, PartialEq, Eq)]
+#[derive(Clone, Copy)]
 pub struct Section {
     pub volid: Volid,
     /// The block of the file's mark.
@@ -17,7 +17,7 @@ pub struct Section {
     pub to: u64,
 }
 
-#[derive(Clone, Copy, PartialEq, Eq)]
+#[derive(Clone, Copy)]
 pub enum CopyState {
     /// Its bytes are being written, or were not all written.
     Begun,

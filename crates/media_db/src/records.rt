@@ -5,7 +5,7 @@ use crate::copies::copies_of;
 use room_base::{Items, Memory, Moment, Name, Ssid};
 use save_stream::Level;
 
-#[derive(Clone, Copy, PartialEq, Eq)]
+#[derive(Clone, Copy)]
 pub enum RecordState {
     /// The save goes on, or was cut off.
     Begun,

@@ -2,11 +2,11 @@ use std::alloc::{AllocError, AllocFailed};
 
 /// An object of the outside (a source, a sink, a clock, a disk) failed in this call. Its count of
 /// faults has risen.
-#[derive(Clone, Copy, PartialEq, Eq)]
+#[derive(Clone, Copy)]
 pub struct Failed;
 
 /// No memory was to be had. Nothing else is wrong.
-#[derive(Clone, Copy, PartialEq, Eq)]
+#[derive(Clone, Copy)]
 pub struct Memory;
 
 impl From<AllocError> for Memory {

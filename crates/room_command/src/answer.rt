@@ -4,7 +4,7 @@ use room_rules::Planned;
 use save_stream::Level;
 
 /// A slot that is filled. The drive and the volume are 0 where there is none.
-#[derive(Clone, Copy, PartialEq, Eq)]
+#[derive(Clone, Copy)]
 pub struct SlotLine {
     pub cart: Cart,
     pub drive: u8,

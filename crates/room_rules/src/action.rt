@@ -7,7 +7,7 @@ const SKIP: u8 = 11;
 
 /// What a schedule does on a day: a save of some level, whose rank it is, or none at all, which is
 /// 11. Contracts see it as its byte.
-#[derive(Clone, Copy, PartialEq, Eq)]
+#[derive(Clone, Copy)]
 pub struct Action {
     byte: u8,
 }

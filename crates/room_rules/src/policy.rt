@@ -5,7 +5,7 @@ ghost use Rattle.room_rules.specs.Times.{unit_seconds};
 use room_base::{MAX_MOMENT, Memory, Moment, Name};
 
 /// What a policy counts in. A month has 31 days here, and a year 366.
-#[derive(Clone, Copy, PartialEq, Eq)]
+#[derive(Clone, Copy)]
 pub enum Unit {
     Days,
     Weeks,

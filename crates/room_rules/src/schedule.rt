@@ -5,14 +5,14 @@ use room_base::{Items, Memory, Name};
 
 /// What the actions of a schedule are counted by: the days of a week from Sunday on, or those of a
 /// month.
-#[derive(Clone, Copy, PartialEq, Eq)]
+#[derive(Clone, Copy)]
 pub enum Period {
     Week,
     Month,
 }
 
 /// The action of one day, counted from 1970-01-01.
-#[derive(Clone, Copy, PartialEq, Eq)]
+#[derive(Clone, Copy)]
 pub struct Override {
     pub day: u32,
     pub action: Action,

@@ -24,7 +24,7 @@ use volume_block::{BLOCK_SIZE, Block, Label, MAX_BLOCK_SIZE, append_chunks};
 use volume_store::{FilePlace, Found, ReadFault, WalkFault, read_block, read_label, walk_marks};
 
 /// Why a file isn't read.
-#[derive(Clone, Copy, PartialEq, Eq)]
+#[derive(Clone, Copy)]
 pub enum FileFault {
     Memory,
     /// The disk failed.
@@ -42,7 +42,7 @@ pub enum FileFault {
 }
 
 /// Why the data blocks of a file weren't read.
-#[derive(Clone, Copy, PartialEq, Eq)]
+#[derive(Clone, Copy)]
 enum DataFault {
     Memory,
     /// The disk failed.

@@ -11,7 +11,7 @@ use room_base::{Failed, Source};
 use std::alloc::{AllocError, Global};
 
 /// Why the input isn't taken as a file.
-#[derive(Clone, Copy, PartialEq, Eq)]
+#[derive(Clone, Copy)]
 pub enum InputFault {
     Memory,
     /// The input failed.

@@ -20,7 +20,7 @@ use volume_block::Label;
 use volume_store::{FIRST_MARK, Found, Volume, WalkFault, read_label, walk_marks};
 
 /// Where the next file of a cartridge goes.
-#[derive(Clone, Copy, PartialEq, Eq)]
+#[derive(Clone, Copy)]
 pub enum Site {
     /// The cartridge has no label, and gets this one first.
     New(Label),
@@ -29,7 +29,7 @@ pub enum Site {
 }
 
 /// Why the next file of a cartridge has no place.
-#[derive(Clone, Copy, PartialEq, Eq)]
+#[derive(Clone, Copy)]
 pub enum SiteFault {
     DiskFailed,
     ClockFailed,

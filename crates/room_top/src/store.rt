@@ -21,7 +21,7 @@ use volume_block::Label;
 use volume_store::{FIRST_MARK, Volume, write_label};
 
 /// Why a file isn't stored.
-#[derive(Clone, Copy, PartialEq, Eq)]
+#[derive(Clone, Copy)]
 pub enum StoreFault {
     /// Nothing was written.
     Memory,

@@ -11,7 +11,7 @@ use std::alloc::Global;
 use volume_block::MAX_CART;
 
 /// What the program is asked to do.
-#[derive(Clone, Copy, PartialEq, Eq)]
+#[derive(Clone, Copy)]
 pub enum Command {
     /// The input becomes the next file of the cartridge.
     Put { cart: Cart },

@@ -1,5 +1,5 @@
 /// What is to be done with bytes that are sent for an ssid at an offset behind the head.
-#[derive(Clone, Copy, PartialEq, Eq)]
+#[derive(Clone, Copy)]
 pub enum Checked {
     NotOpen,
     /// All of them were sent before; the next byte belongs at `next`.

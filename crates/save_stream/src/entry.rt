@@ -8,7 +8,7 @@ pub const MAX_ENTRIES: usize = 1_000_000;
 /// The most bytes of a stream, and so of a file in it.
 pub const MAX_SIZE: u64 = 68_719_476_736;
 
-#[derive(Clone, Copy, PartialEq, Eq)]
+#[derive(Clone, Copy)]
 pub enum EntryKind {
     File,
     Folder,

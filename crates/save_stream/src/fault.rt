@@ -2,7 +2,7 @@ use room_base::Memory;
 use std::alloc::{AllocError, AllocFailed};
 
 /// Why a piece isn't taken.
-#[derive(Clone, Copy, PartialEq, Eq)]
+#[derive(Clone, Copy)]
 pub enum StreamFault {
     /// The piece completes a field that isn't allowed there. Its first byte is at `offset` of the
     /// stream.
@@ -13,7 +13,7 @@ pub enum StreamFault {
 }
 
 /// Why bytes don't begin with a head.
-#[derive(Clone, Copy, PartialEq, Eq)]
+#[derive(Clone, Copy)]
 pub enum HeadFault {
     /// Its complete fields are allowed, and the bytes end inside it.
     Incomplete,

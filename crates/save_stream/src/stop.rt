@@ -2,7 +2,7 @@ use room_base::Memory;
 use std::alloc::{AllocError, AllocFailed};
 
 /// Why bytes aren't read as a head, an entry or an end.
-#[derive(Clone, Copy, PartialEq, Eq)]
+#[derive(Clone, Copy)]
 pub(crate) enum Stop {
     /// Its fields so far are allowed, and the next one isn't complete.
     More,

@@ -14,7 +14,7 @@ pub const MAX_BLOCK_SIZE: usize = 65_536;
 pub const MAX_FILE_BLOCKS: u32 = 64;
 
 /// What a valid block is.
-#[derive(Clone, Copy, PartialEq, Eq)]
+#[derive(Clone, Copy)]
 pub enum Block {
     Label(Label),
     /// `count` data blocks of `units` units each follow.
@@ -24,13 +24,13 @@ pub enum Block {
 }
 
 /// Why bytes are no valid block.
-#[derive(Clone, Copy, PartialEq, Eq)]
+#[derive(Clone, Copy)]
 pub struct BadBlock {
     pub why: Reason,
 }
 
 /// The part of a block that is wrong. Of several the first in this order is named.
-#[derive(Clone, Copy, PartialEq, Eq)]
+#[derive(Clone, Copy)]
 pub enum Reason {
     Kind,
     Form,
@@ -44,7 +44,7 @@ pub enum Reason {
 /// Where one chunk stands in a data block's payload: `length` bytes of a save set's stream from
 /// `offset` on, which stand in the block from byte `start` on. `next` is where the next chunk
 /// begins.
-#[derive(Clone, Copy, PartialEq, Eq)]
+#[derive(Clone, Copy)]
 pub struct Chunk {
     pub ssid: Ssid,
     pub copy: CopyNo,

@@ -14,7 +14,7 @@ pub const MAX_CAPACITY: u32 = 1_000_000;
 pub const FIRST_RAW_VOLID: u64 = 1 << 63;
 
 /// What a volume's label says. The bytes of `pool` behind its first `pool_length` are zero.
-#[derive(Clone, Copy, PartialEq, Eq)]
+#[derive(Clone, Copy)]
 pub struct Label {
     pub volid: Volid,
     pub cart: Cart,

@@ -11,7 +11,7 @@ use volume_block::{BLOCK_SIZE, Label};
 
 /// A volume that is mounted: its label, the cartridge that it is on, and its next mark place, which
 /// is the number of a block.
-#[derive(Clone, Copy, PartialEq, Eq)]
+#[derive(Clone, Copy)]
 pub struct Volume {
     pub label: Label,
     pub cart: Cart,

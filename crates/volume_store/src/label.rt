@@ -14,7 +14,7 @@ use room_disk::{Store, write_gated, write_synced};
 use volume_block::{BLOCK_SIZE, BadBlock, Label, Reason, decode_label, encode_label};
 
 /// What stands where a cartridge's label is.
-#[derive(Clone, Copy, PartialEq, Eq)]
+#[derive(Clone, Copy)]
 pub enum Found {
     /// The cartridge was never written.
     Blank,

@@ -22,7 +22,7 @@ use room_disk::Store;
 use volume_block::{BLOCK_SIZE, Block};
 
 /// Why a cartridge isn't mounted.
-#[derive(Clone, Copy, PartialEq, Eq)]
+#[derive(Clone, Copy)]
 pub enum MountFault {
     /// It is blank, or has no label.
     Unlabelled,
@@ -45,7 +45,7 @@ impl From<Failed> for MountFault {
 }
 
 /// Why a walk over marks doesn't come to their end.
-#[derive(Clone, Copy, PartialEq, Eq)]
+#[derive(Clone, Copy)]
 pub enum WalkFault {
     /// The mark with this number isn't valid, has other units, or isn't there.
     BadMark { number: u64 },
@@ -65,14 +65,14 @@ impl From<Failed> for WalkFault {
 }
 
 /// Where a committed file stands: its mark, behind which `count` data blocks are.
-#[derive(Clone, Copy, PartialEq, Eq)]
+#[derive(Clone, Copy)]
 pub struct FilePlace {
     pub mark: u64,
     pub count: u32,
 }
 
 /// What a walk over the marks of a cartridge has found.
-#[derive(Clone, Copy, PartialEq, Eq)]
+#[derive(Clone, Copy)]
 pub struct MarkWalk {
     /// How many files there are.
     pub files: u64,
@@ -83,7 +83,7 @@ pub struct MarkWalk {
 }
 
 /// What stands at a mark place.
-#[derive(Clone, Copy, PartialEq, Eq)]
+#[derive(Clone, Copy)]
 pub enum MarkPlace {
     /// The files end here.
     Closed,

@@ -16,7 +16,7 @@ use room_disk::Store;
 use volume_block::{BLOCK_SIZE, BadBlock, Block, Reason, decode_block, size_told};
 
 /// Why a block wasn't read.
-#[derive(Clone, Copy, PartialEq, Eq)]
+#[derive(Clone, Copy)]
 pub enum ReadFault {
     /// The disk failed.
     Failed,
