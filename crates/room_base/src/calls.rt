@@ -27,6 +27,13 @@ impl CallCount {
         CallCount { failing, made: 0 }
     }
 
+    /// How many calls were made.
+    pub fn made(&self) -> u64
+        ensures { result ≡ self.now.made }
+    {
+        self.made
+    }
+
     /// Counts one more call, and says whether it is to fail.
     pub fn next_fails(&mut self) -> bool
         ensures fails { IsTrue result ↔ FailsNext self.old }

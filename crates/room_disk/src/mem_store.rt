@@ -72,6 +72,13 @@ impl MemStore {
         self.short
     }
 
+    /// How many calls were made.
+    pub fn calls(&self) -> u64
+        ensures { result ≡ self.now.calls.made }
+    {
+        self.calls.made()
+    }
+
     /// The disk after a crash, with nothing pending and no call that is to fail. Of what was
     /// written or cut since the last sync of its file it has nothing (0), all (1), all ranges full
     /// of 0xFF (2), or the first half of each write and all cuts (3).

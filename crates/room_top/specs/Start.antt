@@ -6,13 +6,13 @@ use Rattle.room_base.specs.Outside.{SinkView, Told, AddsFront}
 use Rattle.room_base.specs.Text.{IsName, HasLength}
 use Rattle.room_disk.specs.Untold.{untold_disk}
 use Rattle.room_disk.specs.declared.folder_lock.LockFault.{LockFault}
-use Rattle.room_top.specs.Report.{Reports, ReportsUnlocked}
-use Rattle.room_top.specs.Run.{World, world, Ends}
+use Rattle.room_run.specs.Report.{Reports, ReportsUnlocked}
+use Rattle.room_run.specs.Run.{World, world, Ends}
 use Rattle.room_top.specs.declared.start.Request.{Request}
 use Rattle.room_top.specs.declared.start.Request.TheVariants as requests
-use Rattle.room_top.specs.declared.status.Status.{Status}
-use Rattle.room_top.specs.declared.status.Status.TheVariants as status
-use Rattle.room_top.specs.Words.{AreCommand}
+use Rattle.room_run.specs.declared.status.Status.{Status}
+use Rattle.room_run.specs.declared.status.Status.TheVariants as status
+use Rattle.room_run.specs.Words.{AreCommand}
 
 -- ---- what is asked for
 

@@ -1,16 +1,13 @@
 ghost use Rattle.std.specs.Prelude.{◌≡◌, ◌≤◌, ◌↔◌, ◌∷◌, [], ℕ, List, IsTrue, map, string_bytes};
 ghost use Rattle.room_base.specs.Outside.{Told};
-ghost use Rattle.room_top.specs.Numbers.{exit_number};
-ghost use Rattle.room_top.specs.Report.{Reports};
+ghost use Rattle.room_run.specs.Numbers.{exit_number};
+ghost use Rattle.room_run.specs.Report.{Reports};
 ghost use Rattle.room_top.specs.Start.{AsksFor, IsFolderOf, PrintsText, RunsOverSystem, Starts};
-ghost use Rattle.room_top.specs.declared.status.Status.{Status};
+ghost use Rattle.room_run.specs.declared.status.Status.{Status};
 
-use crate::Status;
-use crate::report::{report, report_unlocked};
-use crate::run::run;
-use crate::words::{misfit, read_words};
 use room_base::{Name, NameFault, RealClock, Sink, StdSource, write_all};
 use room_disk::{FolderLock, FolderStore};
+use room_run::{Status, misfit, read_words, report, report_unlocked, run};
 use std::alloc::Global;
 use std::env;
 use std::fs::File;

@@ -1,11 +1,11 @@
 use Rattle.std.proofs.Common.{rules, ℕ, List, inl, map, string_bytes, subst, Ok, Err}
 use Rattle.room_base.specs.Outside.{SinkView}
-use Rattle.room_top.specs.Run.{Ends}
+use Rattle.room_run.specs.Run.{Ends}
 use Rattle.room_top.specs.Start.{RunsOverSystem, SystemFaults, system}
-use Rattle.room_top.specs.Words.{ReadsWords}
+use Rattle.room_run.specs.Words.{ReadsWords}
 use Rattle.room_top.specs.declared.start.Request.TheVariants as requests
-use Rattle.room_top.specs.declared.status.Status.{Status}
-use Rattle.room_top.specs.declared.status.Status.TheVariants as status
+use Rattle.room_run.specs.declared.status.Status.{Status}
+use Rattle.room_run.specs.declared.status.Status.TheVariants as status
 use Rattle.room_top.proofs.start.serve.Goals as goal
 
 -- no fault has come yet
