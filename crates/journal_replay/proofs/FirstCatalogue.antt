@@ -1,9 +1,9 @@
 -- The catalogue that a snapshot gives.
 use Rattle.std.proofs.Common.{◌≡◌, ℕ, true, List, Err, ap, ◌∙◌, subst}
 use Rattle.catalog_change.specs.Catalogues.{Catalogue}
-use Rattle.catalog_text.specs.declared.fault.DecodeFault.TheVariants as faults
-use Rattle.snapshot_text.specs.Decoding.{StopsAtPlace}
-use Rattle.snapshot_reading.specs.Spelled.{IsText}
+use Rattle.catalog_spelling.specs.declared.fault.DecodeFault.TheVariants as faults
+use Rattle.catalog_spelling.specs.SnapshotDecoding.{StopsAtPlace}
+use Rattle.catalog_spelling.specs.SpelledSnapshots.{IsText}
 use Rattle.snapshot_reading.proofs.SnapshotLaws.{one-catalogue, read-back}
 use Rattle.room_catalog.specs.Held.{HeldCatalogue, catalogue_of}
 use Rattle.room_catalog.specs.Reading.{IsReadTo}

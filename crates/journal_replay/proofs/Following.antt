@@ -5,9 +5,9 @@ use Rattle.room_base.specs.declared.numbers.Moment.{Moment}
 use Rattle.cat_journal.specs.Entries.{payloads_of}
 use Rattle.cat_journal.specs.declared.entry_list.Entry.{Entry}
 use Rattle.catalog_change.specs.declared.change.Change.{Change}
-use Rattle.catalog_text.specs.Changes.{Stamped, change_at}
-use Rattle.catalog_text.specs.Decoding.{ChangeText, HasBad}
-use Rattle.catalog_text.proofs.ChangeTexts.{not-bad, one-change}
+use Rattle.catalog_spelling.specs.Changes.{Stamped, change_at}
+use Rattle.catalog_spelling.specs.Decoding.{ChangeText, HasBad}
+use Rattle.catalog_spelling.proofs.ChangeTexts.{not-bad, one-change}
 use Rattle.room_catalog.specs.Changing.{lists_after}
 use Rattle.room_catalog.specs.Held.{CatalogueLists}
 use Rattle.journal_replay.specs.Answers.{StraysAmong, TellsChange}

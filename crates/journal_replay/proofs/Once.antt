@@ -7,7 +7,7 @@ use Rattle.cat_journal.specs.Meaning.{Meaning, Means, Unopened, Damaged, Stands}
 use Rattle.cat_journal.proofs.EveryMeaning.{every_meaning}
 use Rattle.cat_journal.proofs.OneMeaning.{one_meaning}
 use Rattle.catalog_change.specs.Catalogues.{Catalogue}
-use Rattle.catalog_text.specs.Changes.{Stamped}
+use Rattle.catalog_spelling.specs.Changes.{Stamped}
 use Rattle.room_catalog.specs.Fits.{Fits, FitsParts}
 use Rattle.room_catalog.specs.Held.{CatalogueLists, Parts, catalogue_of, no_parts}
 use Rattle.resource_lists.specs.Lists.{opening_resources}

@@ -9,7 +9,7 @@ use Rattle.cat_journal.specs.Journal.{IsJournalFile}
 use Rattle.cat_journal.specs.declared.entry_list.Entry.{Entry}
 use Rattle.cat_journal.specs.declared.opening.OpenFault.{OpenFault}
 use Rattle.cat_journal.specs.declared.opening.OpenFault.TheVariants as opens
-use Rattle.catalog_text.specs.Changes.{Stamped}
+use Rattle.catalog_spelling.specs.Changes.{Stamped}
 use Rattle.room_catalog.specs.Held.{CatalogueLists, HeldCatalogue}
 use Rattle.room_catalog.specs.Invariant.{IsHeld}
 use Rattle.room_effects.specs.View.{IsJournalOf}

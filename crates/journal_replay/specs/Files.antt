@@ -3,8 +3,8 @@ use Rattle.std.specs.Prelude.{◌≡◌, ◌⊎◌, ℕ, true, List, ◌∷◌, 
 use Rattle.room_disk.specs.Disk.{Image}
 use Rattle.cat_journal.specs.Contents.{Contents, contents_of, gate_of}
 use Rattle.cat_journal.specs.Meaning.{Meaning, Means, Unopened, Damaged, Stands}
-use Rattle.catalog_text.specs.Changes.{Stamped}
-use Rattle.snapshot_reading.specs.Spelled.{IsText}
+use Rattle.catalog_spelling.specs.Changes.{Stamped}
+use Rattle.catalog_spelling.specs.SpelledSnapshots.{IsText}
 use Rattle.room_catalog.specs.Held.{CatalogueLists, catalogue_of, no_parts}
 use Rattle.room_effects.specs.Replaying.{Follows, Replays}
 use Rattle.room_effects.specs.Reopening.{Reopens}

@@ -1,10 +1,10 @@
 -- What is read of the bytes of a snapshot.
 use Rattle.std.specs.Prelude.{◌≡◌, ℕ, Bool, List, Result, Ok, Err}
-use Rattle.catalog_text.specs.declared.fault.DecodeFault.{DecodeFault}
-use Rattle.catalog_text.specs.declared.fault.DecodeFault.TheVariants as faults
-use Rattle.snapshot_text.specs.Decoding.{StopsAtPlace}
-use Rattle.snapshot_text.specs.Snapshots.{kept_in}
-use Rattle.snapshot_reading.specs.Spelled.{IsText}
+use Rattle.catalog_spelling.specs.declared.fault.DecodeFault.{DecodeFault}
+use Rattle.catalog_spelling.specs.declared.fault.DecodeFault.TheVariants as faults
+use Rattle.catalog_spelling.specs.SnapshotDecoding.{StopsAtPlace}
+use Rattle.catalog_spelling.specs.Snapshots.{kept_in}
+use Rattle.catalog_spelling.specs.SpelledSnapshots.{IsText}
 use Rattle.room_catalog.specs.Held.{HeldCatalogue, catalogue_of, no_parts}
 
 -- The bytes are the one spelling of this catalogue, in which no part waits; what is read without

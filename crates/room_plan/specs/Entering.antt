@@ -4,7 +4,7 @@ use Rattle.std.specs.Option.{is_some}
 use Rattle.room_base.specs.Numbers.{max_moment}
 use Rattle.room_base.specs.declared.numbers.Moment.{Moment}
 use Rattle.room_base.specs.declared.refusal.Refusal.TheVariants.{TooMany}
-use Rattle.snapshot_text.specs.Snapshots.{snapshot_text}
+use Rattle.catalog_spelling.specs.Snapshots.{snapshot_text}
 use Rattle.room_catalog.specs.Held.{CatalogueLists, catalogue_of}
 use Rattle.room_command.specs.declared.reply.Reply.{Reply}
 use Rattle.room_effects.specs.View.{RoomView}

@@ -5,7 +5,7 @@ use Rattle.std.specs.Option.{is_some}
 use Rattle.room_base.specs.declared.numbers.Moment.{Moment}
 use Rattle.room_base.specs.declared.refusal.Refusal.TheVariants.{TooMany}
 use Rattle.catalog_change.specs.declared.change.Change.{Change}
-use Rattle.snapshot_text.specs.Snapshots.{snapshot_text}
+use Rattle.catalog_spelling.specs.Snapshots.{snapshot_text}
 use Rattle.room_catalog.specs.Held.{catalogue_of}
 use Rattle.room_command.specs.declared.reply.Reply.{Reply}
 use Rattle.save_session.specs.Sessions.{SessionView}

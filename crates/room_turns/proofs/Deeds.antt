@@ -5,7 +5,7 @@ use Rattle.std.specs.Prelude.{IsTrue, Ok, Err, Result}
 use Rattle.room_base.specs.declared.refusal.Refusal.{Refusal}
 use Rattle.room_disk.specs.Disk.{Image}
 use Rattle.cat_journal.specs.Journal.{KnowsFiles}
-use Rattle.catalog_text.specs.Changes.{Stamped}
+use Rattle.catalog_spelling.specs.Changes.{Stamped}
 use Rattle.room_catalog.specs.Changing.{without_parts}
 use Rattle.room_catalog.specs.Held.{CatalogueLists, catalogue_of}
 use Rattle.room_effects.specs.View.{IsRoom, RoomView}

@@ -12,7 +12,7 @@ use Rattle.media_db.specs.declared.records.Record.{Record}
 use Rattle.save_session.specs.Sessions.{SessionView, find_session}
 use Rattle.slot_changer.specs.Drives.{holds_set}
 use Rattle.cat_journal.specs.Journal.{form_of}
-use Rattle.snapshot_text.specs.Snapshots.{snapshot_text}
+use Rattle.catalog_spelling.specs.Snapshots.{snapshot_text}
 use Rattle.room_catalog.specs.Held.{catalogue_of}
 use Rattle.room_command.specs.declared.answer.Answer.{Answer}
 use Rattle.room_command.specs.declared.answer.Answer.TheVariants as answers

@@ -14,7 +14,7 @@ use Rattle.catalog_change.specs.declared.change.Change.TheVariants as changes
 use Rattle.catalog_change.specs.declared.resource.Resource.{Resource}
 use Rattle.catalog_change.specs.declared.resource.ResourceKind.{ResourceKind}
 use Rattle.resource_text.specs.Reading.{Outcome}
-use Rattle.snapshot_text.specs.Snapshots.{snapshot_text}
+use Rattle.catalog_spelling.specs.Snapshots.{snapshot_text}
 use Rattle.room_catalog.specs.Held.{catalogue_of}
 use Rattle.save_session.specs.Sessions.{SessionView}
 use Rattle.slot_changer.specs.Drives.{blocks_in}

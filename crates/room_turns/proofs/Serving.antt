@@ -12,7 +12,7 @@ use Rattle.catalog_change.specs.declared.change.Change.TheVariants.{Defined, Dro
 use Rattle.room_disk.specs.Disk.{DiskView, Image, Images, IsDisk, Quiet}
 use Rattle.room_disk.proofs.Runs.{leaves_none, leaves_quiet, leaves_then, leaves_weaker, quiet_none}
 use Rattle.cat_journal.specs.Images.{IsJournal}
-use Rattle.catalog_text.specs.Changes.{Stamped}
+use Rattle.catalog_spelling.specs.Changes.{Stamped}
 use Rattle.room_catalog.specs.Changing.{catalogue_after}
 use Rattle.room_catalog.specs.Held.{CatalogueLists, catalogue_of}
 use Rattle.room_catalog.specs.Invariant.{IsHeld}

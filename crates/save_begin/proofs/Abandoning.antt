@@ -14,7 +14,7 @@ use Rattle.media_db.specs.declared.records.Record.{Record}
 use Rattle.media_db.specs.Rows.{find_record}
 use Rattle.catalog_change.specs.declared.change.Change.{Change}
 use Rattle.catalog_change.specs.declared.change.Change.TheVariants as changes
-use Rattle.snapshot_text.specs.Snapshots.{snapshot_text}
+use Rattle.catalog_spelling.specs.Snapshots.{snapshot_text}
 use Rattle.room_catalog.specs.Fits.{IsBegun}
 use Rattle.room_catalog.specs.Held.{catalogue_of}
 use Rattle.save_session.specs.Sessions.{SessionView, IsOpen, find_session, ssid_of}

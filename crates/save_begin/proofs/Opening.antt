@@ -6,7 +6,7 @@ use Rattle.save_stream.specs.declared.head.SetHead.{SetHead}
 use Rattle.save_session.specs.Sessions.{SessionView, room_for}
 use Rattle.catalog_change.specs.declared.change.Change.{Change}
 use Rattle.catalog_change.specs.declared.change.Change.TheVariants as changes
-use Rattle.snapshot_reading.specs.Spelled.{IsText}
+use Rattle.catalog_spelling.specs.SpelledSnapshots.{IsText}
 use Rattle.room_catalog.specs.Fits.{Fits}
 use Rattle.room_catalog.specs.Held.{CatalogueLists, catalogue_of}
 use Rattle.room_catalog.specs.Ready.{KeepsRoom}

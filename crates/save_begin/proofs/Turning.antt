@@ -7,7 +7,7 @@ use Rattle.room_base.specs.declared.refusal.Refusal.{Refusal}
 use Rattle.room_disk.specs.Disk.{DiskView}
 use Rattle.cat_journal.specs.Journal.{turned_over}
 use Rattle.catalog_change.specs.declared.change.Change.{Change}
-use Rattle.snapshot_text.specs.Snapshots.{snapshot_text}
+use Rattle.catalog_spelling.specs.Snapshots.{snapshot_text}
 use Rattle.room_catalog.specs.Held.{Parts, catalogue_of, no_parts}
 use Rattle.room_effects.specs.View.{RoomView, IsRoom}
 use Rattle.room_effects.specs.Effects.{Effect, Enter, TurnOver, after_done, entry_bytes, turned}

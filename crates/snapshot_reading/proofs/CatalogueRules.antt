@@ -8,15 +8,15 @@ use Rattle.save_stream.specs.Standing.{AreBytes}
 use Rattle.save_stream.specs.declared.entry.IndexEntry.{IndexEntry}
 use Rattle.catalog_change.specs.Catalogues.{Catalogue, IsCatalogue}
 use Rattle.catalog_change.specs.Changes.{AreEntries}
-use Rattle.catalog_text.specs.Entries.{FitsEntry}
-use Rattle.snapshot_text.specs.declared.fields.SnapshotFields.{SnapshotFields}
-use Rattle.snapshot_text.specs.declared.parts.Snapshot.{Snapshot}
-use Rattle.snapshot_text.specs.Decoding.{AreMade, IsReadTo}
-use Rattle.snapshot_text.specs.Resources.{has_lasting, lists_text}
-use Rattle.snapshot_text.specs.Media.{slots_text, volumes_text}
-use Rattle.snapshot_text.specs.Snapshots.{catalogue_read, front_text, kept_in, snapshot_at, snapshot_text}
-use Rattle.snapshot_text.specs.Fits.{FitsCatalogue}
-use Rattle.snapshot_reading.specs.Spelled.{IsSpelled}
+use Rattle.catalog_spelling.specs.Entries.{FitsEntry}
+use Rattle.catalog_spelling.specs.declared.snapshot_fields.SnapshotFields.{SnapshotFields}
+use Rattle.catalog_spelling.specs.declared.parts.Snapshot.{Snapshot}
+use Rattle.catalog_spelling.specs.SnapshotDecoding.{AreMade, IsReadTo}
+use Rattle.catalog_spelling.specs.SnapshotResources.{has_lasting, lists_text}
+use Rattle.catalog_spelling.specs.Media.{slots_text, volumes_text}
+use Rattle.catalog_spelling.specs.Snapshots.{catalogue_read, front_text, kept_in, snapshot_at, snapshot_text}
+use Rattle.catalog_spelling.specs.Fits.{FitsCatalogue}
+use Rattle.catalog_spelling.specs.SpelledSnapshots.{IsSpelled}
 use Rattle.snapshot_reading.proofs.Each.{all-as}
 use Rattle.snapshot_reading.proofs.FieldLaws.{AreFieldsIf, fields_text, fields-read}
 use Rattle.snapshot_reading.proofs.Found.{taken}

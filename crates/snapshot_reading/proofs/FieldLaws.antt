@@ -2,15 +2,15 @@
 use Rattle.std.proofs.Common.{ℕ, ◌≤◌, Bool, List, ◌++◌, refl, arith}
 use Rattle.room_base.specs.Numbers.{max_moment}
 use Rattle.catalog_change.specs.Catalogues.{max_number}
-use Rattle.catalog_text.specs.Spelled.{Reads}
-use Rattle.catalog_text.specs.Fields.{byte_text, number_bytes}
-use Rattle.catalog_text.proofs.Steps.{start, begin, took, after, then-found}
-use Rattle.catalog_text.proofs.Fields.{u64-within, moment-reads}
-use Rattle.snapshot_text.specs.declared.fields.SnapshotFields.{SnapshotFields}
-use Rattle.snapshot_text.specs.Media.{slots_text, volumes_text}
-use Rattle.snapshot_text.specs.Records.{records_text}
-use Rattle.snapshot_text.specs.Resources.{has_lasting, lists_text}
-use Rattle.snapshot_text.specs.Snapshots.{snapshot_at}
+use Rattle.catalog_spelling.specs.Spelled.{Reads}
+use Rattle.catalog_spelling.specs.Fields.{byte_text, number_bytes}
+use Rattle.catalog_spelling.proofs.Steps.{start, begin, took, after, then-found}
+use Rattle.catalog_spelling.proofs.Fields.{u64-within, moment-reads}
+use Rattle.catalog_spelling.specs.declared.snapshot_fields.SnapshotFields.{SnapshotFields}
+use Rattle.catalog_spelling.specs.Media.{slots_text, volumes_text}
+use Rattle.catalog_spelling.specs.Records.{records_text}
+use Rattle.catalog_spelling.specs.SnapshotResources.{has_lasting, lists_text}
+use Rattle.catalog_spelling.specs.Snapshots.{snapshot_at}
 use Rattle.snapshot_reading.proofs.HeadLaws.{given_byte-reads}
 use Rattle.snapshot_reading.proofs.ListLaws.{AreListsIf, lists-read}
 use Rattle.snapshot_reading.proofs.MediaLaws.{AreSlotsIf, slots-read, AreVolumesIf, volumes-read}

@@ -8,12 +8,12 @@ use Rattle.save_stream.specs.Spelling.{IsHead, head_text, number_text, short_tex
 use Rattle.save_stream.specs.declared.head.SetHead.{SetHead}
 use Rattle.save_stream.proofs.Again.{is_level-again}
 use Rattle.save_stream.proofs.Sound.{is_level-is}
-use Rattle.catalog_text.specs.Reading.{Part, checked}
-use Rattle.catalog_text.specs.Spelled.{Took, Reads}
-use Rattle.catalog_text.specs.Fields.{byte_text, byte_at, number_bytes, number_at}
-use Rattle.snapshot_text.specs.Heads.{head_if_at}
-use Rattle.catalog_text.proofs.Steps.{start, begin, took, after, then-found, judged-as, checked-reads, texts-same}
-use Rattle.catalog_text.proofs.Fields.{byte-reads, u64-reads, u64-within, number-empty, moment-reads, name-reads, text-reads}
+use Rattle.catalog_spelling.specs.Reading.{Part, checked}
+use Rattle.catalog_spelling.specs.Spelled.{Took, Reads}
+use Rattle.catalog_spelling.specs.Fields.{byte_text, byte_at, number_bytes, number_at}
+use Rattle.catalog_spelling.specs.SnapshotHeads.{head_if_at}
+use Rattle.catalog_spelling.proofs.Steps.{start, begin, took, after, then-found, judged-as, checked-reads, texts-same}
+use Rattle.catalog_spelling.proofs.Fields.{byte-reads, u64-reads, u64-within, number-empty, moment-reads, name-reads, text-reads}
 
 -- a byte that can be one alone
 pub given_byte-reads : (given : ℕ) → Reads (λ bytes. checked (λ byte. eqb byte given) bytes (byte_at bytes)) (λ byte. byte_text given) (λ byte. byte ≡ given)

@@ -14,11 +14,11 @@ use Rattle.client_index.specs.declared.index.SetIndex.{SetIndex}
 use Rattle.media_db.specs.Rows.{find_record}
 use Rattle.media_db.specs.declared.records.Record.{Record}
 use Rattle.save_stream.specs.declared.entry.IndexEntry.{IndexEntry}
-use Rattle.catalog_text.specs.Fields.{number_bytes}
-use Rattle.snapshot_text.specs.declared.fields.ListedRecord.{ListedRecord}
-use Rattle.snapshot_text.specs.Records.{listed_ssid, listed_text, records_text}
-use Rattle.snapshot_text.specs.Snapshots.{kept_index, listed_in, rows_text}
-use Rattle.snapshot_text.specs.Storing.{set_of}
+use Rattle.catalog_spelling.specs.Fields.{number_bytes}
+use Rattle.catalog_spelling.specs.declared.snapshot_fields.ListedRecord.{ListedRecord}
+use Rattle.catalog_spelling.specs.Records.{listed_ssid, listed_text, records_text}
+use Rattle.catalog_spelling.specs.Snapshots.{kept_index, listed_in, rows_text}
+use Rattle.catalog_spelling.specs.Storing.{set_of}
 use Rattle.snapshot_text.proofs.Fitting.{chosen_row, kept_none, row_later}
 use Rattle.snapshot_reading.proofs.Each.{all-as, all-both, same-texts}
 use Rattle.snapshot_reading.proofs.Storing.{row-of}

@@ -4,15 +4,15 @@ use Rattle.save_stream.specs.Standing.{AreBytes}
 use Rattle.catalog_change.specs.declared.resource.Resource.{Resource}
 use Rattle.catalog_change.specs.declared.resource.Resource.TheVariants as resources
 use Rattle.catalog_change.specs.Resources.{kind_of}
-use Rattle.catalog_text.specs.Reading.{Part, ◌>>=◌, checked}
-use Rattle.catalog_text.specs.Spelled.{Took, Judged, Reads}
-use Rattle.catalog_text.specs.Fields.{byte_at}
-use Rattle.catalog_text.specs.Kinds.{Readers, chosen, by_kind_at}
-use Rattle.catalog_text.specs.Resources.{resource_byte, resource_text, fields_text}
-use Rattle.catalog_text.proofs.Steps.{begin, took, then-found}
-use Rattle.catalog_text.proofs.KindLaws.{Finds, by_kind-reads}
-use Rattle.snapshot_text.specs.declared.fields.ResourceLists.{ResourceLists}
-use Rattle.snapshot_text.specs.Resources.{policy_at, pool_at, client_at, schedule_at, group_at, with_policy_at, with_pool_at, with_client_at, with_schedule_at, with_group_at, lists_readers, can_follow, next_at}
+use Rattle.catalog_spelling.specs.Reading.{Part, ◌>>=◌, checked}
+use Rattle.catalog_spelling.specs.Spelled.{Took, Judged, Reads}
+use Rattle.catalog_spelling.specs.Fields.{byte_at}
+use Rattle.catalog_spelling.specs.Kinds.{Readers, chosen, by_kind_at}
+use Rattle.catalog_spelling.specs.Resources.{resource_byte, resource_text, fields_text}
+use Rattle.catalog_spelling.proofs.Steps.{begin, took, then-found}
+use Rattle.catalog_spelling.proofs.KindLaws.{Finds, by_kind-reads}
+use Rattle.catalog_spelling.specs.declared.snapshot_fields.ResourceLists.{ResourceLists}
+use Rattle.catalog_spelling.specs.SnapshotResources.{policy_at, pool_at, client_at, schedule_at, group_at, with_policy_at, with_pool_at, with_client_at, with_schedule_at, with_group_at, lists_readers, can_follow, next_at}
 use Rattle.snapshot_reading.proofs.ResourceLaws.{IsPolicyIf, policy-reads, IsPoolIf, pool-reads, IsClientIf, client-reads, IsScheduleIf, schedule-reads, IsGroupIf, group-reads}
 
 -- the resources with one more behind those of its kind

@@ -8,16 +8,16 @@ use Rattle.std.proofs.lemmas.List.Folds.{flat_map-map}
 use Rattle.save_stream.proofs.Sound.{both-true}
 use Rattle.catalog_change.specs.declared.resource.Resource.{Resource}
 use Rattle.catalog_change.specs.declared.resource.Resource.TheVariants as resources
-use Rattle.catalog_text.specs.Reading.{Part, ◌>>=◌}
-use Rattle.catalog_text.specs.Spelled.{Took, Judged, Reads}
-use Rattle.catalog_text.specs.Fields.{number_bytes, number_within_at}
-use Rattle.catalog_text.specs.Lists.{AllBehind, items_at, list_at, list_text}
-use Rattle.catalog_text.specs.Resources.{resource_text}
-use Rattle.catalog_text.specs.Changes.{max_count}
-use Rattle.catalog_text.proofs.Fields.{u32-within}
-use Rattle.catalog_text.proofs.Lists.{list-reads, IsListOf}
-use Rattle.snapshot_text.specs.declared.fields.ResourceLists.{ResourceLists}
-use Rattle.snapshot_text.specs.Resources.{can_follow, count_of, is_none, lists_at, lists_text, more_at, no_resources}
+use Rattle.catalog_spelling.specs.Reading.{Part, ◌>>=◌}
+use Rattle.catalog_spelling.specs.Spelled.{Took, Judged, Reads}
+use Rattle.catalog_spelling.specs.Fields.{number_bytes, number_within_at}
+use Rattle.catalog_spelling.specs.Lists.{AllBehind, items_at, list_at, list_text}
+use Rattle.catalog_spelling.specs.Resources.{resource_text}
+use Rattle.catalog_spelling.specs.Changes.{max_count}
+use Rattle.catalog_spelling.proofs.Fields.{u32-within}
+use Rattle.catalog_spelling.proofs.Lists.{list-reads, IsListOf}
+use Rattle.catalog_spelling.specs.declared.snapshot_fields.ResourceLists.{ResourceLists}
+use Rattle.catalog_spelling.specs.SnapshotResources.{can_follow, count_of, is_none, lists_at, lists_text, more_at, no_resources}
 use Rattle.snapshot_reading.proofs.KindLaws.{with_resource, IsNextResource, byte_of, resource_at, resource-reads, put_behind, next-same}
 use Rattle.snapshot_reading.proofs.Ordered.{behind-push}
 use Rattle.snapshot_reading.proofs.ResourceLaws.{IsPolicyIf, IsPoolIf, IsClientIf, IsScheduleIf, IsGroupIf}

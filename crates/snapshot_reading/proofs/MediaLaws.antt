@@ -12,17 +12,17 @@ use Rattle.media_db.specs.declared.volumes.VolumeRec.{VolumeRec}
 use Rattle.save_stream.specs.Spelling.{IsNameTo}
 use Rattle.catalog_change.specs.declared.slot.FilledSlot.{FilledSlot}
 use Rattle.catalog_change.specs.Catalogues.{max_copy, max_number, slot_cart, volume_cart}
-use Rattle.catalog_text.specs.Reading.{checked}
-use Rattle.catalog_text.specs.Spelled.{Reads}
-use Rattle.catalog_text.specs.Fields.{byte_text, byte_at, number_bytes, number_at, coded, code_at}
-use Rattle.catalog_text.specs.Lists.{list_at}
-use Rattle.catalog_text.specs.Sections.{section_at, section_text, sections_text}
-use Rattle.catalog_text.specs.Changes.{max_count}
-use Rattle.catalog_text.proofs.Steps.{start, begin, took, after, then-found, checked-reads, reads-as}
-use Rattle.catalog_text.proofs.Fields.{byte-reads, u32-reads, u64-reads, u32-within, number-empty, name-reads, code-reads}
-use Rattle.catalog_text.proofs.Lists.{list-reads, IsListOf}
-use Rattle.catalog_text.proofs.SectionLaws.{IsNext, AreWhole, section-reads, sections-read}
-use Rattle.snapshot_text.specs.Media.{is_next_slot, is_free_cart, is_next_drawn, slot_text, slot_at, slots_text, slots_at, count_if_at, volume_text, volume_at, volumes_text, volumes_at, copy_kinds, copy_byte, copy_text, copy_sections_at, copy_at, copies_text, copies_at, fits_state}
+use Rattle.catalog_spelling.specs.Reading.{checked}
+use Rattle.catalog_spelling.specs.Spelled.{Reads}
+use Rattle.catalog_spelling.specs.Fields.{byte_text, byte_at, number_bytes, number_at, coded, code_at}
+use Rattle.catalog_spelling.specs.Lists.{list_at}
+use Rattle.catalog_spelling.specs.Sections.{section_at, section_text, sections_text}
+use Rattle.catalog_spelling.specs.Changes.{max_count}
+use Rattle.catalog_spelling.proofs.Steps.{start, begin, took, after, then-found, checked-reads, reads-as}
+use Rattle.catalog_spelling.proofs.Fields.{byte-reads, u32-reads, u64-reads, u32-within, number-empty, name-reads, code-reads}
+use Rattle.catalog_spelling.proofs.Lists.{list-reads, IsListOf}
+use Rattle.catalog_spelling.proofs.SectionLaws.{IsNext, AreWhole, section-reads, sections-read}
+use Rattle.catalog_spelling.specs.Media.{is_next_slot, is_free_cart, is_next_drawn, slot_text, slot_at, slots_text, slots_at, count_if_at, volume_text, volume_at, volumes_text, volumes_at, copy_kinds, copy_byte, copy_text, copy_sections_at, copy_at, copies_text, copies_at, fits_state}
 
 byte-if : (allows : ℕ → Bool) → Reads (λ bytes. checked allows bytes (byte_at bytes)) byte_text (λ n. (n < 256) × (allows n ≡ true))
 byte-if allows = checked-reads byte-reads allows refl

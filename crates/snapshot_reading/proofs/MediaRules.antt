@@ -20,13 +20,13 @@ use Rattle.save_stream.proofs.Sound.{both-true}
 use Rattle.catalog_change.specs.Catalogues.{AreApart, AreSlots, FitState, HasVolumes, IsCopy, IsDrawn, IsFilled, IsVolume, max_copy, max_number, slot_cart, slot_number, volume_cart}
 use Rattle.catalog_change.specs.Catalogues as catalogues
 use Rattle.catalog_change.specs.declared.slot.FilledSlot.{FilledSlot}
-use Rattle.catalog_text.specs.Fields.{is_within}
-use Rattle.catalog_text.specs.Lists.{AllBehind, last_item}
-use Rattle.catalog_text.specs.Sections.{FitsSection}
-use Rattle.catalog_text.proofs.Behind.{Rises, rising-is, rising-behind, above-is, above-again}
-use Rattle.snapshot_text.specs.Media.{fits_state, is_above, is_drawn, is_first_begun, is_free, is_next_drawn}
+use Rattle.catalog_spelling.specs.Fields.{is_within}
+use Rattle.catalog_spelling.specs.Lists.{AllBehind, last_item}
+use Rattle.catalog_spelling.specs.Sections.{FitsSection}
+use Rattle.catalog_spelling.proofs.Behind.{Rises, rising-is, rising-behind, above-is, above-again}
+use Rattle.catalog_spelling.specs.Media.{fits_state, is_above, is_drawn, is_first_begun, is_free, is_next_drawn}
 use Rattle.snapshot_text.proofs.CanWrite.{slots_count}
-use Rattle.snapshot_text.specs.Fits.{FitsCopy, FitsVolume}
+use Rattle.catalog_spelling.specs.Fits.{FitsCopy, FitsVolume}
 use Rattle.snapshot_reading.proofs.Each.{all-append, all-apart, all-both, all-with, behind-apart, behind-as, behind-both}
 use Rattle.snapshot_reading.proofs.MediaLaws.{AreCopiesIf, AreSectionsOf, AreSlotsIf, AreVolumesIf, IsNextCopy, IsNextSlot, IsNextVolume}
 

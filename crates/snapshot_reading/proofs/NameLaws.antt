@@ -2,11 +2,11 @@
 use Rattle.std.proofs.Common.{◌≡◌, ℕ, ◌-◌, ◌≤◌, Bool, true, false, cond, List, [], ◌∷◌, ◌++◌, length, Ok, Err, refl, ap, ◌∙◌, arith}
 use Rattle.save_stream.specs.Reading.{is_name}
 use Rattle.save_stream.specs.Spelling.{IsNameTo, short_text}
-use Rattle.catalog_text.specs.Reading.{Part, ◌>>=◌, checked}
-use Rattle.catalog_text.specs.Spelled.{Took, Judged, Reads}
-use Rattle.catalog_text.specs.Fields.{bytes_at, byte_within_at, text_at, name_at}
-use Rattle.catalog_text.proofs.Fields.{byte-within, bytes-empty, name-reads}
-use Rattle.snapshot_text.specs.Names.{name_if_at}
+use Rattle.catalog_spelling.specs.Reading.{Part, ◌>>=◌, checked}
+use Rattle.catalog_spelling.specs.Spelled.{Took, Judged, Reads}
+use Rattle.catalog_spelling.specs.Fields.{bytes_at, byte_within_at, text_at, name_at}
+use Rattle.catalog_spelling.proofs.Fields.{byte-within, bytes-empty, name-reads}
+use Rattle.catalog_spelling.specs.Names.{name_if_at}
 
 -- a name that is allowed by a test
 abbrev pub IsNameIf : (List ℕ → Bool) → List ℕ → Type 0

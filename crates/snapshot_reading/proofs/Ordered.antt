@@ -10,9 +10,9 @@ use Rattle.std.specs.declared.cmp.Ordering.TheVariants.{Less, Equal, Greater}
 use Rattle.room_base.specs.Ordered.{Ascends, IsPlace, find_by}
 use Rattle.room_base.proofs.OrderedSearch.{found_at}
 use Rattle.save_stream.specs.Reading.{is_below}
-use Rattle.catalog_text.specs.Lists.{AllBehind, last_item, by_item}
-use Rattle.catalog_text.proofs.Behind.{Rises, rising-is, rising-behind}
-use Rattle.snapshot_text.specs.Names.{is_next_name}
+use Rattle.catalog_spelling.specs.Lists.{AllBehind, last_item, by_item}
+use Rattle.catalog_spelling.proofs.Behind.{Rises, rising-is, rising-behind}
+use Rattle.catalog_spelling.specs.Names.{is_next_name}
 
 less-is : (order : Ordering) → is_lt order ≡ true → order ≡ Less
 less-is Less is = refl

@@ -15,15 +15,15 @@ use Rattle.save_stream.specs.Spelling.{IsNameTo, short_text}
 use Rattle.save_stream.proofs.Again.{both}
 use Rattle.save_stream.proofs.Sound.{both-true}
 use Rattle.catalog_change.specs.Resources.{max_day, day_of, IsListTo, IsOverride}
-use Rattle.catalog_text.specs.Spelled.{Reads}
-use Rattle.catalog_text.specs.Fields.{byte_text, coded, code_at}
-use Rattle.catalog_text.specs.Lists.{last_item}
-use Rattle.catalog_text.specs.Resources.{unit_kinds, unit_byte, period_kinds, period_byte, action_at, names_at, names_text, levels_at, levels_text, actions_at, actions_text, is_next_day, override_text, override_at, overrides_at, overrides_text}
-use Rattle.catalog_text.proofs.Steps.{start, begin, took, after, then-found, checked-reads, reads-as}
-use Rattle.catalog_text.proofs.Fields.{u16-within, u32-reads, byte-within, number-empty, name-reads, code-reads}
-use Rattle.catalog_text.proofs.Lists.{list-reads}
-use Rattle.catalog_text.proofs.ResourceLaws.{level-reads}
-use Rattle.catalog_text.proofs.Behind.{each-is, each-behind, Rises, rising-is, rising-behind, above-is, above-again}
+use Rattle.catalog_spelling.specs.Spelled.{Reads}
+use Rattle.catalog_spelling.specs.Fields.{byte_text, coded, code_at}
+use Rattle.catalog_spelling.specs.Lists.{last_item}
+use Rattle.catalog_spelling.specs.Resources.{unit_kinds, unit_byte, period_kinds, period_byte, action_at, names_at, names_text, levels_at, levels_text, actions_at, actions_text, is_next_day, override_text, override_at, overrides_at, overrides_text}
+use Rattle.catalog_spelling.proofs.Steps.{start, begin, took, after, then-found, checked-reads, reads-as}
+use Rattle.catalog_spelling.proofs.Fields.{u16-within, u32-reads, byte-within, number-empty, name-reads, code-reads}
+use Rattle.catalog_spelling.proofs.Lists.{list-reads}
+use Rattle.catalog_spelling.proofs.ResourceLaws.{level-reads}
+use Rattle.catalog_spelling.proofs.Behind.{each-is, each-behind, Rises, rising-is, rising-behind, above-is, above-again}
 
 -- ---- bytes that stand for something
 

@@ -8,17 +8,17 @@ use Rattle.save_stream.specs.Spelling.{head_text}
 use Rattle.save_stream.specs.declared.entry.IndexEntry.{IndexEntry}
 use Rattle.save_stream.specs.declared.head.SetHead.{SetHead}
 use Rattle.catalog_change.specs.Catalogues.{max_number}
-use Rattle.catalog_text.specs.Reading.{checked}
-use Rattle.catalog_text.specs.Spelled.{Took, Reads}
-use Rattle.catalog_text.specs.Fields.{byte_text, number_bytes, number_at, coded, code_at}
-use Rattle.catalog_text.specs.Changes.{max_count}
-use Rattle.catalog_text.proofs.Steps.{start, begin, took, after, then-found, checked-reads}
-use Rattle.catalog_text.proofs.Fields.{u32-reads, u64-reads, u32-within, number-empty, bytes-reads, flag-reads, code-reads}
-use Rattle.catalog_text.proofs.Lists.{list-reads, IsListOf}
-use Rattle.catalog_text.proofs.EntryLaws.{IsIndexWithin, index-reads}
-use Rattle.snapshot_text.specs.declared.fields.ListedRecord.{ListedRecord}
-use Rattle.snapshot_text.specs.Media.{is_next_drawn}
-use Rattle.snapshot_text.specs.Records.{record_kinds, state_byte, is_longer, fields_text, fields_at, listed_ssid, index_if_text, index_if_at, listed_text, listed_at, records_text, records_at}
+use Rattle.catalog_spelling.specs.Reading.{checked}
+use Rattle.catalog_spelling.specs.Spelled.{Took, Reads}
+use Rattle.catalog_spelling.specs.Fields.{byte_text, number_bytes, number_at, coded, code_at}
+use Rattle.catalog_spelling.specs.Changes.{max_count}
+use Rattle.catalog_spelling.proofs.Steps.{start, begin, took, after, then-found, checked-reads}
+use Rattle.catalog_spelling.proofs.Fields.{u32-reads, u64-reads, u32-within, number-empty, bytes-reads, flag-reads, code-reads}
+use Rattle.catalog_spelling.proofs.Lists.{list-reads, IsListOf}
+use Rattle.catalog_spelling.proofs.EntryLaws.{IsIndexWithin, index-reads}
+use Rattle.catalog_spelling.specs.declared.snapshot_fields.ListedRecord.{ListedRecord}
+use Rattle.catalog_spelling.specs.Media.{is_next_drawn}
+use Rattle.catalog_spelling.specs.Records.{record_kinds, state_byte, is_longer, fields_text, fields_at, listed_ssid, index_if_text, index_if_at, listed_text, listed_at, records_text, records_at}
 use Rattle.snapshot_reading.proofs.HeadLaws.{IsHeadIf, head_if-reads}
 use Rattle.snapshot_reading.proofs.MediaLaws.{AreCopiesIf, copies-read}
 

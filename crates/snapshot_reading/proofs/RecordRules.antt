@@ -13,10 +13,10 @@ use Rattle.media_db.specs.declared.records.RecordState.{RecordState}
 use Rattle.media_db.specs.declared.records.RecordState.TheVariants as states
 use Rattle.save_stream.specs.Spelling.{head_text}
 use Rattle.catalog_change.specs.Catalogues.{HasRecords, IsLonger, IsRecord, max_number}
-use Rattle.catalog_text.proofs.Behind.{Rises, rising-is, rising-behind}
-use Rattle.snapshot_text.specs.declared.fields.ListedRecord.{ListedRecord}
-use Rattle.snapshot_text.specs.Records.{is_longer, listed_ssid}
-use Rattle.snapshot_text.specs.Fits.{FitsRecord}
+use Rattle.catalog_spelling.proofs.Behind.{Rises, rising-is, rising-behind}
+use Rattle.catalog_spelling.specs.declared.snapshot_fields.ListedRecord.{ListedRecord}
+use Rattle.catalog_spelling.specs.Records.{is_longer, listed_ssid}
+use Rattle.catalog_spelling.specs.Fits.{FitsRecord}
 use Rattle.snapshot_reading.proofs.Each.{all-apart, all-both, all-mapped, all-of-mapped, behind-as}
 use Rattle.snapshot_reading.proofs.MediaRules.{HasCopies, copies-allowed, copies-again, next_drawn-is, next_drawn-again}
 use Rattle.snapshot_reading.proofs.RecordLaws.{AreRecordsIf, IsIndexIf, IsNextListed}

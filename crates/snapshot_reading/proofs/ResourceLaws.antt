@@ -11,14 +11,14 @@ use Rattle.save_stream.specs.Spelling.{IsNameTo}
 use Rattle.catalog_change.specs.declared.resource.Client.{Client}
 use Rattle.catalog_change.specs.declared.resource.Resource.TheVariants as resources
 use Rattle.catalog_change.specs.Resources.{IsMember, IsPolicy, IsPool, IsClient, IsSchedule, client_name, group_name, policy_name, pool_name, schedule_name}
-use Rattle.catalog_text.specs.Spelled.{Reads}
-use Rattle.catalog_text.specs.Resources.{fields_text, member_text, members_text, FitsResource}
-use Rattle.catalog_text.proofs.Steps.{start, begin, took, after, then-found, reads-as}
-use Rattle.catalog_text.proofs.Fields.{u16-within, u32-within, name-reads}
-use Rattle.catalog_text.proofs.Lists.{list-reads}
-use Rattle.catalog_text.proofs.Behind.{each-is, each-behind}
-use Rattle.snapshot_text.specs.Names.{is_next_name, is_there}
-use Rattle.snapshot_text.specs.Resources.{policy_at, pool_at, client_at, schedule_at, group_at, member_at, members_at}
+use Rattle.catalog_spelling.specs.Spelled.{Reads}
+use Rattle.catalog_spelling.specs.Resources.{fields_text, member_text, members_text, FitsResource}
+use Rattle.catalog_spelling.proofs.Steps.{start, begin, took, after, then-found, reads-as}
+use Rattle.catalog_spelling.proofs.Fields.{u16-within, u32-within, name-reads}
+use Rattle.catalog_spelling.proofs.Lists.{list-reads}
+use Rattle.catalog_spelling.proofs.Behind.{each-is, each-behind}
+use Rattle.catalog_spelling.specs.Names.{is_next_name, is_there}
+use Rattle.catalog_spelling.specs.SnapshotResources.{policy_at, pool_at, client_at, schedule_at, group_at, member_at, members_at}
 use Rattle.snapshot_reading.proofs.NameLaws.{name_if-reads}
 use Rattle.snapshot_reading.proofs.PartLaws.{unit-reads, period-reads, names-read, levels-read, actions-read, overrides-read}
 

@@ -12,12 +12,12 @@ use Rattle.save_stream.proofs.Sound.{both-true}
 use Rattle.catalog_change.specs.Catalogues.{AreNamed, Catalogue, HasClient, HasPolicies, HasResources, HasSchedule}
 use Rattle.catalog_change.specs.declared.resource.Client.{Client}
 use Rattle.catalog_change.specs.Resources.{IsClient, IsGroup, IsMember, IsPolicy, IsPool, IsSchedule, client_name, group_name, policy_name, pool_name, schedule_name}
-use Rattle.catalog_text.specs.Lists.{AllBehind, last_item}
-use Rattle.catalog_text.proofs.Behind.{Rises, rising-is, rising-behind}
-use Rattle.snapshot_text.specs.Fits.{FitsPool, FitsSchedule}
-use Rattle.snapshot_text.specs.Names.{is_next_name, is_there}
-use Rattle.snapshot_text.specs.Resources.{has_lasting}
-use Rattle.snapshot_text.specs.Snapshots.{lists_of}
+use Rattle.catalog_spelling.specs.Lists.{AllBehind, last_item}
+use Rattle.catalog_spelling.proofs.Behind.{Rises, rising-is, rising-behind}
+use Rattle.catalog_spelling.specs.Fits.{FitsPool, FitsSchedule}
+use Rattle.catalog_spelling.specs.Names.{is_next_name, is_there}
+use Rattle.catalog_spelling.specs.SnapshotResources.{has_lasting}
+use Rattle.catalog_spelling.specs.Snapshots.{lists_of}
 use Rattle.snapshot_reading.proofs.Each.{all-apart, all-both, behind-as}
 use Rattle.snapshot_reading.proofs.ListLaws.{AreListsIf}
 use Rattle.snapshot_reading.proofs.Ordered.{last-above, last-below}

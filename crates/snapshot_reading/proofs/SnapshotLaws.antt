@@ -9,19 +9,19 @@ use Rattle.save_stream.specs.Standing.{AreBytes}
 use Rattle.save_stream.specs.declared.entry.IndexEntry.{IndexEntry}
 use Rattle.catalog_change.specs.Catalogues.{Catalogue, HasRecords, IsCatalogue}
 use Rattle.catalog_change.specs.Changes.{AreEntries}
-use Rattle.catalog_text.specs.declared.fault.DecodeFault.{DecodeFault}
-use Rattle.catalog_text.specs.declared.fault.DecodeFault.TheVariants as faults
-use Rattle.catalog_text.specs.Decoding.{EndsAt, HasBad, StopsAt}
-use Rattle.catalog_text.specs.Reading.{Part}
-use Rattle.catalog_text.specs.Entries.{FitsEntry}
-use Rattle.catalog_text.proofs.Decodes.{ends-bad, spelled-not-bad, stops-bad}
-use Rattle.snapshot_text.specs.declared.fields.SnapshotFields.{SnapshotFields}
-use Rattle.snapshot_text.specs.declared.parts.Snapshot.{Snapshot}
-use Rattle.snapshot_text.specs.Decoding.{Decodes, StopsAtPlace}
-use Rattle.snapshot_text.specs.Records.{listed_ssid}
-use Rattle.snapshot_text.specs.Snapshots.{catalogue_read, kept_in, kept_index, lists_of, snapshot_at, snapshot_text}
-use Rattle.snapshot_text.specs.Fits.{FitsCatalogue, FitsRecord}
-use Rattle.snapshot_reading.specs.Spelled.{IsReadBack, IsText}
+use Rattle.catalog_spelling.specs.declared.fault.DecodeFault.{DecodeFault}
+use Rattle.catalog_spelling.specs.declared.fault.DecodeFault.TheVariants as faults
+use Rattle.catalog_spelling.specs.Decoding.{EndsAt, HasBad, StopsAt}
+use Rattle.catalog_spelling.specs.Reading.{Part}
+use Rattle.catalog_spelling.specs.Entries.{FitsEntry}
+use Rattle.catalog_spelling.proofs.Decodes.{ends-bad, spelled-not-bad, stops-bad}
+use Rattle.catalog_spelling.specs.declared.snapshot_fields.SnapshotFields.{SnapshotFields}
+use Rattle.catalog_spelling.specs.declared.parts.Snapshot.{Snapshot}
+use Rattle.catalog_spelling.specs.SnapshotDecoding.{Decodes, StopsAtPlace}
+use Rattle.catalog_spelling.specs.Records.{listed_ssid}
+use Rattle.catalog_spelling.specs.Snapshots.{catalogue_read, kept_in, kept_index, lists_of, snapshot_at, snapshot_text}
+use Rattle.catalog_spelling.specs.Fits.{FitsCatalogue, FitsRecord}
+use Rattle.catalog_spelling.specs.SpelledSnapshots.{IsReadBack, IsText}
 use Rattle.snapshot_reading.proofs.CatalogueRules.{catalogue_in, fields-allowed, is-spelled, kept-same, made-same, text-same}
 use Rattle.snapshot_reading.proofs.Each.{all-any, all-mapped}
 use Rattle.snapshot_reading.proofs.FieldLaws.{AreFieldsIf, fields_text, fields-read}

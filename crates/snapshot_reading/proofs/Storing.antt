@@ -15,12 +15,12 @@ use Rattle.save_stream.specs.declared.entry.IndexEntry.{IndexEntry}
 use Rattle.media_db.specs.Rows.{AreVolumes, HasLowerBase, volid_of}
 use Rattle.media_db.specs.declared.volumes.VolumeRec.{VolumeRec}
 use Rattle.catalog_change.specs.Catalogues.{max_number}
-use Rattle.catalog_text.specs.Lists.{last_item}
-use Rattle.catalog_text.proofs.Behind.{Rises, rising-is, above-is}
-use Rattle.snapshot_text.specs.declared.fields.ListedRecord.{ListedRecord}
-use Rattle.snapshot_text.specs.Media.{is_next_drawn, volumes_at}
-use Rattle.snapshot_text.specs.Records.{listed_ssid, records_at}
-use Rattle.snapshot_text.specs.Storing.{AreListed}
+use Rattle.catalog_spelling.specs.Lists.{last_item}
+use Rattle.catalog_spelling.proofs.Behind.{Rises, rising-is, above-is}
+use Rattle.catalog_spelling.specs.declared.snapshot_fields.ListedRecord.{ListedRecord}
+use Rattle.catalog_spelling.specs.Media.{is_next_drawn, volumes_at}
+use Rattle.catalog_spelling.specs.Records.{listed_ssid, records_at}
+use Rattle.catalog_spelling.specs.Storing.{AreListed}
 use Rattle.snapshot_reading.proofs.Each.{behind-as}
 use Rattle.snapshot_reading.proofs.Found.{taken}
 use Rattle.snapshot_reading.proofs.MediaLaws.{IsNextVolume, volumes-read}

@@ -1,9 +1,9 @@
 //! Reads the fields of a snapshot.
 
 ghost use Rattle.std.specs.Prelude.{◌≡◌, IfOk};
-ghost use Rattle.catalog_text.specs.Reading.{Gives};
-ghost use Rattle.snapshot_text.specs.Snapshots.{snapshot_at};
-ghost use Rattle.snapshot_text.specs.Storing.{AreStored};
+ghost use Rattle.catalog_spelling.specs.Reading.{Gives};
+ghost use Rattle.catalog_spelling.specs.Snapshots.{snapshot_at};
+ghost use Rattle.catalog_spelling.specs.Storing.{AreStored};
 
 use crate::lists::{has_lasting, read_lists};
 use crate::records::read_listed_records;
@@ -18,7 +18,7 @@ use std::alloc::Global;
 pub(crate) const MAX_NUMBER: u64 = 9_223_372_036_854_775_807;
 
 /// The fields of a snapshot at the front of bytes.
-#[tactic(auto, unfolding(snapshot_text::specs::Snapshots::snapshot_at))]
+#[tactic(auto, unfolding(catalog_spelling::specs::Snapshots::snapshot_at))]
 pub(crate) fn read_fields(
     alloc: Global,
     indexed: bool,

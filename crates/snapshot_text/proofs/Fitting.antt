@@ -8,9 +8,9 @@ use Rattle.client_index.specs.declared.index.SetIndex.{SetIndex}
 use Rattle.media_db.specs.Rows.{find_record}
 use Rattle.media_db.specs.declared.records.Record.{Record}
 use Rattle.save_stream.specs.declared.entry.IndexEntry.{IndexEntry}
-use Rattle.catalog_text.specs.Entries.{FitsEntry}
-use Rattle.snapshot_text.specs.Fits.{FitsRecord, FitsRow}
-use Rattle.snapshot_text.specs.Snapshots.{kept_index}
+use Rattle.catalog_spelling.specs.Entries.{FitsEntry}
+use Rattle.catalog_spelling.specs.Fits.{FitsRecord, FitsRow}
+use Rattle.catalog_spelling.specs.Snapshots.{kept_index}
 
 abbrev pub chosen_row : Record → List Record → ℕ → Bool → Option Record
 chosen_row row rows ssid test = cond test (Some row) (find_record ssid rows)
