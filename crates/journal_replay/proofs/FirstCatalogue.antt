@@ -6,7 +6,7 @@ use Rattle.catalog_spelling.specs.SnapshotDecoding.{StopsAtPlace}
 use Rattle.catalog_spelling.specs.SpelledSnapshots.{IsText}
 use Rattle.snapshot_reading.proofs.SnapshotLaws.{one-catalogue, read-back}
 use Rattle.room_catalog.specs.Held.{HeldCatalogue, catalogue_of}
-use Rattle.room_catalog.specs.Reading.{IsReadTo}
+use Rattle.journal_replay.specs.Reading.{IsReadTo}
 use Rattle.journal_replay.specs.Files.{GivesNone}
 
 -- bytes are the text of one catalogue

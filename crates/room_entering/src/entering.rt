@@ -31,7 +31,7 @@ pub fn prepare_entry(room: &mut RoomState, change: &Change) -> Result<Option<Ite
     if room.has_journal_file() {
         return Ok(None);
     }
-    let snapshot = room.catalogue().snapshot(room.allocator(), true)?;
+    let snapshot = catalog_snapshot::snapshot(room.catalogue(), room.allocator(), true)?;
     Ok(Some(Items::of(snapshot)))
 }
 
