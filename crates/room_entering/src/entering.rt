@@ -9,8 +9,8 @@ ghost use Rattle.room_command.specs.declared.reply.Reply.TheVariants as replies;
 ghost use Rattle.room_effects.specs.Effects.{Enter};
 ghost use Rattle.room_effects.specs.Needs.{IsFitting, IsWholeChange};
 ghost use Rattle.room_effects.specs.Running.{Does};
-ghost use Rattle.room_plan.specs.Entering.{entering, is_at_ceiling, with_first_file};
-ghost use Rattle.room_plan.specs.Plans.{Do, Follows};
+ghost use Rattle.room_effects.specs.Entering.{entering, is_at_ceiling, with_first_file};
+ghost use Rattle.room_effects.specs.Plans.{Do, Follows};
 ghost use Rattle.room_entering.specs.Prepared.{IsEnteredFrom, IsPrepared};
 
 use crate::ceiling::{CEILING, is_at_ceiling};

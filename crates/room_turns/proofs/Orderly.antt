@@ -13,9 +13,9 @@ use Rattle.room_command.specs.declared.answer.Answer.{Answer}
 use Rattle.room_effects.specs.View.{RoomView}
 use Rattle.room_effects.specs.Effects.{Effect, Look, Seen, TurnOver, after_done}
 use Rattle.room_effects.specs.Running.{Known, known_of}
-use Rattle.room_plan.specs.Checked.{behind, behind_check, checked, unless}
-use Rattle.room_plan.specs.Entering.{ceiling, entering, is_at_ceiling, with_first_file}
-use Rattle.room_plan.specs.Plans.{Do, Plan, Refuse}
+use Rattle.room_effects.specs.Checked.{behind, behind_check, checked, unless}
+use Rattle.room_effects.specs.Entering.{ceiling, entering, is_at_ceiling, with_first_file}
+use Rattle.room_effects.specs.Plans.{Do, Plan, Refuse}
 use Rattle.room_turns.specs.Orderly.{AreFoundedIn, AreOrderly, IsNoFault, IsOrderly, entries_in}
 
 -- ---- checks

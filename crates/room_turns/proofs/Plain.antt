@@ -11,8 +11,8 @@ use Rattle.room_command.specs.declared.reply.Reply.TheVariants as replies
 use Rattle.room_effects.specs.View.{RoomView}
 use Rattle.room_effects.specs.Effects.{Close, Commit, Done, Effect, Enter, EnterPart, Look, Open, Push, PutIn, Take, TakeOut, TurnOver, WriteLabel, after_done}
 use Rattle.room_effects.specs.Running.{Known, known_behind}
-use Rattle.room_plan.specs.Entering.{with_first_file}
-use Rattle.room_plan.specs.Plans.{Do}
+use Rattle.room_effects.specs.Entering.{with_first_file}
+use Rattle.room_effects.specs.Plans.{Do}
 use Rattle.room_turns.specs.Orderly.{AreFoundedIn, IsOrderly, entries_in}
 
 abbrev pub IsPlain : Effect → Type 0

@@ -26,7 +26,7 @@ use Rattle.room_effects.specs.Running.{Does}
 use Rattle.room_effects.proofs.Does.{does_then}
 use Rattle.room_effects.proofs.Sending.{does_close}
 use Rattle.room_entering.specs.Prepared.{IsPrepared}
-use Rattle.room_plan.specs.Entering.{is_at_ceiling, with_first_file}
+use Rattle.room_effects.specs.Entering.{is_at_ceiling, with_first_file}
 use Rattle.room_state.specs.Memory.{TakesMemory}
 use Rattle.room_between.specs.Middle.{HasRecord}
 use Rattle.room_between.specs.Quiet.{IsQuiet}

@@ -16,7 +16,7 @@ use Rattle.room_effects.specs.Memory.{HeldRoom, catalogue_in}
 use Rattle.room_effects.specs.Needs.{CanDo}
 use Rattle.room_effects.proofs.StayingSessions.{one_more}
 use Rattle.room_entering.specs.Prepared.{IsFirstFile, IsPrepared}
-use Rattle.room_plan.specs.Entering.{is_at_ceiling}
+use Rattle.room_effects.specs.Entering.{is_at_ceiling}
 use Rattle.room_state.specs.Memory.{KeepsMemory, TakesMemory}
 use Rattle.room_state.proofs.Prepared.{ready_kept}
 use Rattle.save_begin.specs.declared.entering.Begun.{Begun}

@@ -17,7 +17,7 @@ use Rattle.room_effects.specs.Running.{Does}
 use Rattle.room_effects.proofs.Does.{does_then}
 use Rattle.room_state.specs.Memory.{TakesMemory}
 use Rattle.room_state.proofs.Prepared.{ready_kept}
-use Rattle.room_plan.specs.Entering.{with_first_file}
+use Rattle.room_effects.specs.Entering.{with_first_file}
 
 -- the first file leaves all but the journal as it is: no part of an index waits where none is open
 pub turned_first : (size : ℕ) (room : RoomView) → IsRoom room → room.journal.current ≡ None

@@ -10,9 +10,9 @@ use Rattle.room_effects.specs.View.{RoomView}
 use Rattle.room_effects.specs.Effects.{Effect, Deed, Done, Broken, Look, Seen}
 use Rattle.room_effects.specs.Running.{AreLooks, Does, Performed, RanTo}
 use Rattle.room_effects.proofs.Does.{does_fault, does_stop, performed_then}
-use Rattle.room_plan.specs.Plans.{Plan, Refuse, Do, Follows, IsTurn}
-use Rattle.room_plan.specs.Checked.{ComesTo, behind, checked}
-use Rattle.room_plan.proofs.Following.{follows_fault, follows_no_memory, follows_refusal}
+use Rattle.room_effects.specs.Plans.{Plan, Refuse, Do, Follows, IsTurn}
+use Rattle.room_effects.specs.Checked.{ComesTo, behind, checked}
+use Rattle.room_effects.proofs.Following.{follows_fault, follows_no_memory, follows_refusal}
 
 -- ---- checks
 

@@ -9,7 +9,7 @@ use Rattle.room_catalog.specs.Held.{CatalogueLists, catalogue_of}
 use Rattle.room_command.specs.declared.reply.Reply.{Reply}
 use Rattle.room_effects.specs.View.{RoomView}
 use Rattle.room_effects.specs.Effects.{Effect, TurnOver}
-use Rattle.room_plan.specs.Plans.{Plan, Do, refused_behind}
+use Rattle.room_effects.specs.Plans.{Plan, Do, refused_behind}
 
 -- the moment of a command: what the clock answers, at most the greatest moment that is written, and
 -- not before that of the last change

@@ -4,7 +4,7 @@ use Rattle.room_base.specs.declared.refusal.Refusal.{Refusal}
 use Rattle.room_base.specs.declared.refusal.Refusal.TheVariants.{NoMemory}
 use Rattle.room_command.specs.declared.reply.Reply.TheVariants.{Refused}
 use Rattle.room_effects.specs.Effects.{Effect}
-use Rattle.room_plan.specs.Plans.{Plan, Refuse, Do}
+use Rattle.room_effects.specs.Plans.{Plan, Refuse, Do}
 
 -- refused unless the test holds; else what the checks behind it come to
 abbrev pub unless : {X : Type 0} → Bool → Refusal → Result X Refusal → Result X Refusal

@@ -10,7 +10,7 @@ use Rattle.room_effects.specs.View.{RoomView}
 use Rattle.room_effects.specs.Effects.{Effect}
 use Rattle.room_effects.specs.Running.{AreLooks, Does, Performed}
 use Rattle.room_effects.proofs.Does.{does_none, performed_none}
-use Rattle.room_plan.specs.Plans.{Plan, Refuse, Do, Follows}
+use Rattle.room_effects.specs.Plans.{Plan, Refuse, Do, Follows}
 
 -- it is refused, and nothing is done
 pub follows_refusal : (refusal : Refusal) (room : RoomView) (disk : DiskView) → Follows (Refuse refusal) (Refused refusal) room room disk disk
