@@ -9,7 +9,7 @@ use Rattle.room_catalog.specs.Changing.{catalogue_after, without_parts}
 use Rattle.room_catalog.specs.Held.{CatalogueLists, catalogue_of}
 use Rattle.room_effects.specs.Running.{catalogue_behind}
 use Rattle.room_effects.proofs.Changing.{AreIndexed, IsIndexed, after_bare}
-use Rattle.journal_replay.proofs.Alike.{alike_after}
+use Rattle.journal_files.proofs.Alike.{alike_after}
 
 bare_alike : (m : Moment) (change : Change) (one other : CatalogueLists) → catalogue_of one ≡ catalogue_of other
     → catalogue_of (catalogue_after m change (without_parts one)) ≡ catalogue_of (catalogue_after m change (without_parts other))

@@ -20,7 +20,7 @@ use Rattle.room_effects.proofs.Running.{catalogue_append}
 use Rattle.room_effects.proofs.Standing.{StandsAs, stands_first}
 use Rattle.room_turns.specs.Runs.{failed, stood}
 use Rattle.room_turns.specs.Served.{ReopensBehind, ReopensNow}
-use Rattle.journal_replay.specs.Files.{IsSnapshot, ReplaysTo}
+use Rattle.journal_files.specs.Files.{IsSnapshot, ReplaysTo}
 
 -- ---- the changes that stand, and the one whose entry failed
 

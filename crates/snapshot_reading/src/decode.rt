@@ -9,11 +9,11 @@ ghost use Rattle.snapshot_reading.specs.Whole.{ReadsWhole};
 ghost use Rattle.catalog_spelling.specs.Storing.{AreListed, AreStored, set_of};
 
 use crate::reading::read_fields;
+use catalog_spelling::{ListedRecord, Snapshot, SnapshotFields};
 use catalog_text::{DecodeFault, FieldFault};
 use client_index::ClientIndex;
 use media_db::{MediaDb, VolumeRec};
 use room_base::Memory;
-use snapshot_text::{ListedRecord, Snapshot, SnapshotFields};
 use std::alloc::Global;
 
 /// Reads a snapshot from all of the bytes.

@@ -9,12 +9,12 @@ ghost use Rattle.catalog_spelling.specs.Media.{is_next_drawn};
 ghost use Rattle.catalog_spelling.specs.Records.{listed_ssid};
 
 use crate::reading::MAX_NUMBER;
+use catalog_spelling::ListedRecord;
 use catalog_text::{
     FieldFault, allow, known, read_moment, read_name, read_text, read_u8, read_u64, read_u64_within,
 };
 use room_base::{MAX_MOMENT, Moment, Name, Ssid};
 use save_stream::{Level, SetHead};
-use snapshot_text::ListedRecord;
 use std::alloc::Global;
 
 /// The head of a stream whose ssid may stand behind those of these records.

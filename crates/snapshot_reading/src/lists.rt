@@ -10,10 +10,10 @@ ghost use Rattle.catalog_spelling.specs.SnapshotResources.{with_schedule_at, wit
 
 use crate::names::is_there;
 use crate::resource_reading::{read_client, read_group, read_policy, read_pool, read_schedule};
+use catalog_spelling::ResourceLists;
 use catalog_text::{FieldFault, allow, read_u8, read_u32_within};
 use room_base::Items;
 use room_rules::DEFAULT_POOL;
-use snapshot_text::ResourceLists;
 use std::alloc::Global;
 
 // The client of the room's own saves.
@@ -109,7 +109,7 @@ fn read_next(
     }
 }
 
-#[tactic(auto, using(crate::proofs::Ordered::ascends_push), unfolding(catalog_spelling::specs::SnapshotResources::with_policy_at))]
+#[tactic(auto, using(snapshot_laws::proofs::Ordered::ascends_push), unfolding(catalog_spelling::specs::SnapshotResources::with_policy_at))]
 fn with_policy(
     alloc: Global,
     lists: ResourceLists,
@@ -129,7 +129,7 @@ fn with_policy(
     Ok((lists, rest))
 }
 
-#[tactic(auto, using(crate::proofs::Ordered::ascends_push), unfolding(catalog_spelling::specs::SnapshotResources::with_pool_at))]
+#[tactic(auto, using(snapshot_laws::proofs::Ordered::ascends_push), unfolding(catalog_spelling::specs::SnapshotResources::with_pool_at))]
 fn with_pool(
     alloc: Global,
     lists: ResourceLists,
@@ -149,7 +149,7 @@ fn with_pool(
     Ok((lists, rest))
 }
 
-#[tactic(auto, using(crate::proofs::Ordered::ascends_push), unfolding(catalog_spelling::specs::SnapshotResources::with_client_at))]
+#[tactic(auto, using(snapshot_laws::proofs::Ordered::ascends_push), unfolding(catalog_spelling::specs::SnapshotResources::with_client_at))]
 fn with_client(
     alloc: Global,
     lists: ResourceLists,
@@ -174,7 +174,7 @@ fn with_client(
     Ok((lists, rest))
 }
 
-#[tactic(auto, using(crate::proofs::Ordered::ascends_push), unfolding(catalog_spelling::specs::SnapshotResources::with_schedule_at))]
+#[tactic(auto, using(snapshot_laws::proofs::Ordered::ascends_push), unfolding(catalog_spelling::specs::SnapshotResources::with_schedule_at))]
 fn with_schedule(
     alloc: Global,
     lists: ResourceLists,
@@ -194,7 +194,7 @@ fn with_schedule(
     Ok((lists, rest))
 }
 
-#[tactic(auto, using(crate::proofs::Ordered::ascends_push), unfolding(catalog_spelling::specs::SnapshotResources::with_group_at))]
+#[tactic(auto, using(snapshot_laws::proofs::Ordered::ascends_push), unfolding(catalog_spelling::specs::SnapshotResources::with_group_at))]
 fn with_group(
     alloc: Global,
     lists: ResourceLists,

@@ -9,10 +9,16 @@ use crate::lists::{has_lasting, read_lists};
 use crate::records::read_listed_records;
 use crate::slots::read_slots;
 use crate::volumes::read_listed_volumes;
+use catalog_spelling::SnapshotFields;
 use catalog_text::{FieldFault, allow, read_moment, read_u8, read_u64_within};
 use room_base::{Ssid, Volid};
-use snapshot_text::{FORM, SNAPSHOT_KIND, SnapshotFields};
 use std::alloc::Global;
+
+/// The byte that a snapshot begins with, and the form of snapshots, which follows: those that are
+/// written, as `snapshot_at` and `front_text` say.
+const SNAPSHOT_KIND: u8 = b'B';
+
+const FORM: u8 = 1;
 
 /// The greatest number of a change, of the next save set and of the next volume.
 pub(crate) const MAX_NUMBER: u64 = 9_223_372_036_854_775_807;

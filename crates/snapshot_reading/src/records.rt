@@ -11,6 +11,7 @@ ghost use Rattle.catalog_spelling.specs.Records.{record_kinds, records_at};
 use crate::copies::read_copies;
 use crate::heads::read_head;
 use crate::item::{ReadItem, read_items};
+use catalog_spelling::ListedRecord;
 use catalog_text::{
     Entries, FieldFault, allow, known, read_digest, read_flag, read_list_u32, read_u8, read_u32,
     read_u32_within, read_u64,
@@ -18,7 +19,6 @@ use catalog_text::{
 use media_db::{Record, RecordState};
 use room_base::Items;
 use save_stream::{IndexEntry, SetHead, head_length};
-use snapshot_text::ListedRecord;
 use std::alloc::Global;
 
 /// Records that ascend, below the next one, each with its index where there are indexes.

@@ -17,13 +17,13 @@ ghost use Rattle.catalog_spelling.specs.SnapshotResources.{group_at, member_at, 
 
 use crate::names::{read_known_name, read_next_name};
 use catalog_change::Client;
+use catalog_spelling::ResourceLists;
 use catalog_text::{
     Actions, FieldFault, Levels, Overrides, SetNames, ShortNames, known, read_list_u8,
     read_list_u16, read_name, read_u8, read_u16_within, read_u32_within,
 };
 use room_base::Items;
 use room_rules::{Group, Member, Period, Policy, Pool, Schedule, Unit};
-use snapshot_text::ResourceLists;
 use std::alloc::Global;
 
 // The most criteria of one kind, actions, overrides and members.

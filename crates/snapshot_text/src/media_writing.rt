@@ -59,7 +59,7 @@ fn put_slot(into: &mut Vec<u8>, filled: FilledSlot)
 }
 
 /// Appends slots behind one byte of count.
-#[tactic(auto, using(crate::proofs::CanWrite::slots_count, crate::proofs::CanWrite::slots_any))]
+#[tactic(auto, using(snapshot_laws::proofs::SlotCounts::slots_count, crate::proofs::CanWrite::slots_any))]
 pub(crate) fn put_slots(into: &mut Vec<u8>, slots: &[FilledSlot])
     requires allowed { AreSlots slots.now }
     requires room { HasRoom into.old (slots_text slots.now) }
@@ -332,7 +332,7 @@ pub(crate) fn put_rows(into: &mut Vec<u8>, db: &MediaDb, index: &ClientIndex, in
     put_list(&Records { index, indexed }, db.records(), into);
 }
 
-#[tactic(auto, using(crate::proofs::CanWrite::slots_count, crate::proofs::Lengths::length_slots))]
+#[tactic(auto, using(snapshot_laws::proofs::SlotCounts::slots_count, crate::proofs::Lengths::length_slots))]
 pub(crate) fn slots_length(slots: &[FilledSlot]) -> u64
     requires { AreSlots slots.now }
     ensures { result ≡ u64_saturate (length (slots_text slots.now)) }

@@ -5,7 +5,7 @@ use Rattle.media_db.specs.Rows.{Database, HasLowerBase, ssid_of}
 use Rattle.save_stream.specs.Spelling.{PathsAscend}
 use Rattle.catalog_spelling.specs.declared.snapshot_fields.ListedRecord.{ListedRecord}
 use Rattle.catalog_spelling.specs.Storing.{set_of}
-use Rattle.snapshot_reading.proofs.Storing.{each-at, none-left, put-mapped, row-of, ascends-at}
+use Rattle.snapshot_laws.proofs.Storing.{each-at, none-left, put-mapped, row-of, ascends-at}
 use Rattle.snapshot_reading.proofs.decode.stored.Goals as goal
 
 pub put_record-requires-clause-base : goal.put_record-requires-clause-base

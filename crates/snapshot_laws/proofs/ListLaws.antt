@@ -18,9 +18,9 @@ use Rattle.catalog_spelling.proofs.Fields.{u32-within}
 use Rattle.catalog_spelling.proofs.Lists.{list-reads, IsListOf}
 use Rattle.catalog_spelling.specs.declared.snapshot_fields.ResourceLists.{ResourceLists}
 use Rattle.catalog_spelling.specs.SnapshotResources.{can_follow, count_of, is_none, lists_at, lists_text, more_at, no_resources}
-use Rattle.snapshot_reading.proofs.KindLaws.{with_resource, IsNextResource, byte_of, resource_at, resource-reads, put_behind, next-same}
-use Rattle.snapshot_reading.proofs.Ordered.{behind-push}
-use Rattle.snapshot_reading.proofs.ResourceLaws.{IsPolicyIf, IsPoolIf, IsClientIf, IsScheduleIf, IsGroupIf}
+use Rattle.snapshot_laws.proofs.KindLaws.{with_resource, IsNextResource, byte_of, resource_at, resource-reads, put_behind, next-same}
+use Rattle.snapshot_laws.proofs.Ordered.{behind-push}
+use Rattle.snapshot_laws.proofs.ResourceLaws.{IsPolicyIf, IsPoolIf, IsClientIf, IsScheduleIf, IsGroupIf}
 
 -- ---- resources one behind the other
 

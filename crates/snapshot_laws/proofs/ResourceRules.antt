@@ -18,10 +18,10 @@ use Rattle.catalog_spelling.specs.Fits.{FitsPool, FitsSchedule}
 use Rattle.catalog_spelling.specs.Names.{is_next_name, is_there}
 use Rattle.catalog_spelling.specs.SnapshotResources.{has_lasting}
 use Rattle.catalog_spelling.specs.Snapshots.{lists_of}
-use Rattle.snapshot_reading.proofs.Each.{all-apart, all-both, behind-as}
-use Rattle.snapshot_reading.proofs.ListLaws.{AreListsIf}
-use Rattle.snapshot_reading.proofs.Ordered.{last-above, last-below}
-use Rattle.snapshot_reading.proofs.ResourceLaws.{IsClientIf, IsGroupIf}
+use Rattle.snapshot_laws.proofs.Each.{all-apart, all-both, behind-as}
+use Rattle.snapshot_laws.proofs.ListLaws.{AreListsIf}
+use Rattle.snapshot_laws.proofs.Ordered.{last-above, last-below}
+use Rattle.snapshot_laws.proofs.ResourceLaws.{IsClientIf, IsGroupIf}
 
 -- ---- in the order of their names
 

@@ -5,7 +5,7 @@ use Rattle.room_effects.specs.Effects.{Effect, Enter, EnterPart, TurnOver, Commi
 use Rattle.room_effects.specs.Needs.{CanDo}
 use Rattle.room_effects.specs.Reopening.{HasItsSnapshot, HaveSnapshots}
 use Rattle.room_effects.specs.Running.{AllCan}
-use Rattle.journal_replay.specs.Files.{IsSnapshot}
+use Rattle.journal_files.specs.Files.{IsSnapshot}
 
 has_its : (effect : Effect) (room : RoomView) → CanDo effect room → HasItsSnapshot IsSnapshot effect room
 has_its (Enter m change) room can = tt

@@ -14,10 +14,9 @@ use Rattle.resource_lists.specs.Lists.{opening_resources}
 use Rattle.room_effects.specs.Reopening.{AreAlike, GiveCatalogue, MeansCatalogue}
 use Rattle.room_effects.specs.Replaying.{Follows, Replays, lists_behind}
 use Rattle.room_effects.proofs.Standing.{replays_more}
-use Rattle.journal_replay.specs.Files.{AreDamagedAt, IsDamaged, IsFirst, IsSnapshot, IsStray, MeaningIsDamaged, ReplaysTo, StraysAt}
-use Rattle.journal_replay.proofs.Alike.{alike_after, alike_back, alike_self, alike_then}
-use Rattle.journal_replay.proofs.FirstCatalogue.{one_text}
-use Rattle.journal_replay.proofs.Following.{one_stamped}
+use Rattle.journal_files.specs.Files.{AreDamagedAt, IsDamaged, IsFirst, IsSnapshot, IsStray, MeaningIsDamaged, ReplaysTo, StraysAt}
+use Rattle.journal_files.proofs.Alike.{alike_after, alike_back, alike_self, alike_then}
+use Rattle.journal_files.proofs.Single.{one_stamped, one_text}
 
 -- ---- entries
 

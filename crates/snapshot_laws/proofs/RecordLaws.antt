@@ -19,8 +19,8 @@ use Rattle.catalog_spelling.proofs.EntryLaws.{IsIndexWithin, index-reads}
 use Rattle.catalog_spelling.specs.declared.snapshot_fields.ListedRecord.{ListedRecord}
 use Rattle.catalog_spelling.specs.Media.{is_next_drawn}
 use Rattle.catalog_spelling.specs.Records.{record_kinds, state_byte, is_longer, fields_text, fields_at, listed_ssid, index_if_text, index_if_at, listed_text, listed_at, records_text, records_at}
-use Rattle.snapshot_reading.proofs.HeadLaws.{IsHeadIf, head_if-reads}
-use Rattle.snapshot_reading.proofs.MediaLaws.{AreCopiesIf, copies-read}
+use Rattle.snapshot_laws.proofs.HeadLaws.{IsHeadIf, head_if-reads}
+use Rattle.snapshot_laws.proofs.MediaLaws.{AreCopiesIf, copies-read}
 
 record_kind-again : (state : RecordState) → coded record_kinds (state_byte state) ≡ Some state
 record_kind-again states.Begun = refl

@@ -11,10 +11,10 @@ use Rattle.catalog_spelling.specs.Media.{slots_text, volumes_text}
 use Rattle.catalog_spelling.specs.Records.{records_text}
 use Rattle.catalog_spelling.specs.SnapshotResources.{has_lasting, lists_text}
 use Rattle.catalog_spelling.specs.Snapshots.{snapshot_at}
-use Rattle.snapshot_reading.proofs.HeadLaws.{given_byte-reads}
-use Rattle.snapshot_reading.proofs.ListLaws.{AreListsIf, lists-read}
-use Rattle.snapshot_reading.proofs.MediaLaws.{AreSlotsIf, slots-read, AreVolumesIf, volumes-read}
-use Rattle.snapshot_reading.proofs.RecordLaws.{AreRecordsIf, records-read}
+use Rattle.snapshot_laws.proofs.HeadLaws.{given_byte-reads}
+use Rattle.snapshot_laws.proofs.ListLaws.{AreListsIf, lists-read}
+use Rattle.snapshot_laws.proofs.MediaLaws.{AreSlotsIf, slots-read, AreVolumesIf, volumes-read}
+use Rattle.snapshot_laws.proofs.RecordLaws.{AreRecordsIf, records-read}
 
 -- how the fields of a snapshot are spelled
 abbrev pub fields_text : Bool → SnapshotFields → List ℕ

@@ -17,15 +17,15 @@ use Rattle.catalog_spelling.specs.Media.{slots_text, volumes_text}
 use Rattle.catalog_spelling.specs.Snapshots.{catalogue_read, front_text, kept_in, snapshot_at, snapshot_text}
 use Rattle.catalog_spelling.specs.Fits.{FitsCatalogue}
 use Rattle.catalog_spelling.specs.SpelledSnapshots.{IsSpelled}
-use Rattle.snapshot_reading.proofs.Each.{all-as}
-use Rattle.snapshot_reading.proofs.FieldLaws.{AreFieldsIf, fields_text, fields-read}
-use Rattle.snapshot_reading.proofs.Found.{taken}
-use Rattle.snapshot_reading.proofs.IndexRules.{index_in, index-holds, index-none, rows-same}
-use Rattle.snapshot_reading.proofs.MediaRules.{slots-allowed, volumes-allowed}
-use Rattle.snapshot_reading.proofs.RecordLaws.{IsIndexIf}
-use Rattle.snapshot_reading.proofs.RecordRules.{records-allowed}
-use Rattle.snapshot_reading.proofs.ResourceRules.{resources-allowed}
-use Rattle.snapshot_reading.proofs.Storing.{row-of}
+use Rattle.snapshot_laws.proofs.Each.{all-as}
+use Rattle.snapshot_laws.proofs.FieldLaws.{AreFieldsIf, fields_text, fields-read}
+use Rattle.snapshot_laws.proofs.Found.{taken}
+use Rattle.snapshot_laws.proofs.IndexRules.{index_in, index-holds, index-none, rows-same}
+use Rattle.snapshot_laws.proofs.MediaRules.{slots-allowed, volumes-allowed}
+use Rattle.snapshot_laws.proofs.RecordLaws.{IsIndexIf}
+use Rattle.snapshot_laws.proofs.RecordRules.{records-allowed}
+use Rattle.snapshot_laws.proofs.ResourceRules.{resources-allowed}
+use Rattle.snapshot_laws.proofs.Storing.{row-of}
 
 -- the catalogue of fields
 abbrev pub catalogue_in : SnapshotFields → Catalogue

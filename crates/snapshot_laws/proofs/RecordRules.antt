@@ -17,10 +17,10 @@ use Rattle.catalog_spelling.proofs.Behind.{Rises, rising-is, rising-behind}
 use Rattle.catalog_spelling.specs.declared.snapshot_fields.ListedRecord.{ListedRecord}
 use Rattle.catalog_spelling.specs.Records.{is_longer, listed_ssid}
 use Rattle.catalog_spelling.specs.Fits.{FitsRecord}
-use Rattle.snapshot_reading.proofs.Each.{all-apart, all-both, all-mapped, all-of-mapped, behind-as}
-use Rattle.snapshot_reading.proofs.MediaRules.{HasCopies, copies-allowed, copies-again, next_drawn-is, next_drawn-again}
-use Rattle.snapshot_reading.proofs.RecordLaws.{AreRecordsIf, IsIndexIf, IsNextListed}
-use Rattle.snapshot_reading.proofs.Storing.{row-of}
+use Rattle.snapshot_laws.proofs.Each.{all-apart, all-both, all-mapped, all-of-mapped, behind-as}
+use Rattle.snapshot_laws.proofs.MediaRules.{HasCopies, copies-allowed, copies-again, next_drawn-is, next_drawn-again}
+use Rattle.snapshot_laws.proofs.RecordLaws.{AreRecordsIf, IsIndexIf, IsNextListed}
+use Rattle.snapshot_laws.proofs.Storing.{row-of}
 
 -- ---- one record
 

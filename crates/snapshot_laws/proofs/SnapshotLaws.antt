@@ -22,15 +22,15 @@ use Rattle.catalog_spelling.specs.Records.{listed_ssid}
 use Rattle.catalog_spelling.specs.Snapshots.{catalogue_read, kept_in, kept_index, lists_of, snapshot_at, snapshot_text}
 use Rattle.catalog_spelling.specs.Fits.{FitsCatalogue, FitsRecord}
 use Rattle.catalog_spelling.specs.SpelledSnapshots.{IsReadBack, IsText}
-use Rattle.snapshot_reading.proofs.CatalogueRules.{catalogue_in, fields-allowed, is-spelled, kept-same, made-same, text-same}
-use Rattle.snapshot_reading.proofs.Each.{all-any, all-mapped}
-use Rattle.snapshot_reading.proofs.FieldLaws.{AreFieldsIf, fields_text, fields-read}
-use Rattle.snapshot_reading.proofs.Found.{taken}
-use Rattle.snapshot_reading.proofs.IndexRules.{index_in, index-again, listed_as, rows-again}
-use Rattle.snapshot_reading.proofs.MediaRules.{slots-again, volumes-again}
-use Rattle.snapshot_reading.proofs.RecordLaws.{IsIndexIf}
-use Rattle.snapshot_reading.proofs.RecordRules.{HasListed, ascends-mapped, records-again}
-use Rattle.snapshot_reading.proofs.ResourceRules.{resources-again}
+use Rattle.snapshot_laws.proofs.CatalogueRules.{catalogue_in, fields-allowed, is-spelled, kept-same, made-same, text-same}
+use Rattle.snapshot_laws.proofs.Each.{all-any, all-mapped}
+use Rattle.snapshot_laws.proofs.FieldLaws.{AreFieldsIf, fields_text, fields-read}
+use Rattle.snapshot_laws.proofs.Found.{taken}
+use Rattle.snapshot_laws.proofs.IndexRules.{index_in, index-again, listed_as, rows-again}
+use Rattle.snapshot_laws.proofs.MediaRules.{slots-again, volumes-again}
+use Rattle.snapshot_laws.proofs.RecordLaws.{IsIndexIf}
+use Rattle.snapshot_laws.proofs.RecordRules.{HasListed, ascends-mapped, records-again}
+use Rattle.snapshot_laws.proofs.ResourceRules.{resources-again}
 
 -- ---- the fields of a catalogue
 

@@ -19,9 +19,9 @@ use Rattle.catalog_spelling.specs.declared.snapshot_fields.ListedRecord.{ListedR
 use Rattle.catalog_spelling.specs.Records.{listed_ssid, listed_text, records_text}
 use Rattle.catalog_spelling.specs.Snapshots.{kept_index, listed_in, rows_text}
 use Rattle.catalog_spelling.specs.Storing.{set_of}
-use Rattle.snapshot_text.proofs.Fitting.{chosen_row, kept_none, row_later}
-use Rattle.snapshot_reading.proofs.Each.{all-as, all-both, same-texts}
-use Rattle.snapshot_reading.proofs.Storing.{row-of}
+use Rattle.snapshot_laws.proofs.Fitting.{chosen_row, kept_none, row_later}
+use Rattle.snapshot_laws.proofs.Each.{all-as, all-both, same-texts}
+use Rattle.snapshot_laws.proofs.Storing.{row-of}
 
 -- the entries of a set among those of records
 abbrev pub index_in : List ListedRecord → ℕ → List IndexEntry

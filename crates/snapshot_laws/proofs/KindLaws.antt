@@ -13,7 +13,7 @@ use Rattle.catalog_spelling.proofs.Steps.{begin, took, then-found}
 use Rattle.catalog_spelling.proofs.KindLaws.{Finds, by_kind-reads}
 use Rattle.catalog_spelling.specs.declared.snapshot_fields.ResourceLists.{ResourceLists}
 use Rattle.catalog_spelling.specs.SnapshotResources.{policy_at, pool_at, client_at, schedule_at, group_at, with_policy_at, with_pool_at, with_client_at, with_schedule_at, with_group_at, lists_readers, can_follow, next_at}
-use Rattle.snapshot_reading.proofs.ResourceLaws.{IsPolicyIf, policy-reads, IsPoolIf, pool-reads, IsClientIf, client-reads, IsScheduleIf, schedule-reads, IsGroupIf, group-reads}
+use Rattle.snapshot_laws.proofs.ResourceLaws.{IsPolicyIf, policy-reads, IsPoolIf, pool-reads, IsClientIf, client-reads, IsScheduleIf, schedule-reads, IsGroupIf, group-reads}
 
 -- the resources with one more behind those of its kind
 abbrev pub with_resource : ResourceLists → Resource → ResourceLists

@@ -19,8 +19,8 @@ use Rattle.catalog_spelling.proofs.Lists.{list-reads}
 use Rattle.catalog_spelling.proofs.Behind.{each-is, each-behind}
 use Rattle.catalog_spelling.specs.Names.{is_next_name, is_there}
 use Rattle.catalog_spelling.specs.SnapshotResources.{policy_at, pool_at, client_at, schedule_at, group_at, member_at, members_at}
-use Rattle.snapshot_reading.proofs.NameLaws.{name_if-reads}
-use Rattle.snapshot_reading.proofs.PartLaws.{unit-reads, period-reads, names-read, levels-read, actions-read, overrides-read}
+use Rattle.snapshot_laws.proofs.NameLaws.{name_if-reads}
+use Rattle.snapshot_laws.proofs.PartLaws.{unit-reads, period-reads, names-read, levels-read, actions-read, overrides-read}
 
 abbrev pub IsPolicyIf : List Policy → Policy → Type 0
 IsPolicyIf before policy = IsPolicy policy × (is_next_name policy_name before policy.name ≡ true)

@@ -21,10 +21,10 @@ use Rattle.catalog_spelling.specs.declared.snapshot_fields.ListedRecord.{ListedR
 use Rattle.catalog_spelling.specs.Media.{is_next_drawn, volumes_at}
 use Rattle.catalog_spelling.specs.Records.{listed_ssid, records_at}
 use Rattle.catalog_spelling.specs.Storing.{AreListed}
-use Rattle.snapshot_reading.proofs.Each.{behind-as}
-use Rattle.snapshot_reading.proofs.Found.{taken}
-use Rattle.snapshot_reading.proofs.MediaLaws.{IsNextVolume, volumes-read}
-use Rattle.snapshot_reading.proofs.RecordLaws.{IsIndexIf, IsNextListed, records-read}
+use Rattle.snapshot_laws.proofs.Each.{behind-as}
+use Rattle.snapshot_laws.proofs.Found.{taken}
+use Rattle.snapshot_laws.proofs.MediaLaws.{IsNextVolume, volumes-read}
+use Rattle.snapshot_laws.proofs.RecordLaws.{IsIndexIf, IsNextListed, records-read}
 
 second : (a b : Bool) → a && b ≡ true → b ≡ true
 second true b is = is

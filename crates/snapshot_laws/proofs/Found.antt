@@ -6,7 +6,7 @@ use Rattle.save_stream.specs.declared.head.SetHead.{SetHead}
 use Rattle.catalog_spelling.specs.Reading.{Part}
 use Rattle.catalog_spelling.specs.Spelled.{Took, Judged, Reads}
 use Rattle.catalog_spelling.specs.SnapshotHeads.{head_if_at}
-use Rattle.snapshot_reading.proofs.HeadLaws.{head_if-reads}
+use Rattle.snapshot_laws.proofs.HeadLaws.{head_if-reads}
 
 pub taken : {X : Type 0} (at : List ℕ → Part X) (text : X → List ℕ) (Is : X → Type 0) (reads : Reads at text Is) (bytes : List ℕ) (x : X) (rest : List ℕ) → AreBytes bytes → at bytes ≡ Ok (x, rest)
     → Took bytes (text x) rest × Is x

@@ -25,10 +25,10 @@ use Rattle.catalog_spelling.specs.Lists.{AllBehind, last_item}
 use Rattle.catalog_spelling.specs.Sections.{FitsSection}
 use Rattle.catalog_spelling.proofs.Behind.{Rises, rising-is, rising-behind, above-is, above-again}
 use Rattle.catalog_spelling.specs.Media.{fits_state, is_above, is_drawn, is_first_begun, is_free, is_next_drawn}
-use Rattle.snapshot_text.proofs.CanWrite.{slots_count}
+use Rattle.snapshot_laws.proofs.SlotCounts.{slots_count}
 use Rattle.catalog_spelling.specs.Fits.{FitsCopy, FitsVolume}
-use Rattle.snapshot_reading.proofs.Each.{all-append, all-apart, all-both, all-with, behind-apart, behind-as, behind-both}
-use Rattle.snapshot_reading.proofs.MediaLaws.{AreCopiesIf, AreSectionsOf, AreSlotsIf, AreVolumesIf, IsNextCopy, IsNextSlot, IsNextVolume}
+use Rattle.snapshot_laws.proofs.Each.{all-append, all-apart, all-both, all-with, behind-apart, behind-as, behind-both}
+use Rattle.snapshot_laws.proofs.MediaLaws.{AreCopiesIf, AreSectionsOf, AreSlotsIf, AreVolumesIf, IsNextCopy, IsNextSlot, IsNextVolume}
 
 -- ---- what tests say
 
