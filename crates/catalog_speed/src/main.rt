@@ -8,9 +8,10 @@ ghost use Rattle.room_base.specs.Numbers.{max_moment};
 ghost use Rattle.catalog_change.specs.Changes.{IsChange};
 
 use catalog_change::Change;
+use catalog_snapshot::snapshot;
 use catalog_text::{decode_change, encode_change};
+use journal_replay::read_snapshot;
 use room_base::{Moment, Name};
-use room_catalog::Catalogue;
 use room_disk::{FolderStore, Store};
 use std::alloc::Global;
 use std::env;
@@ -77,15 +78,15 @@ fn encode_each(alloc: Global, moment: Moment, change: &Change, times: u32) -> Op
 
 fn read(alloc: Global, text: &[u8], times: u32) -> Option<()> {
     for _ in 0..times {
-        Catalogue::read_snapshot(alloc, text, true).ok()?;
+        read_snapshot(alloc, text, true).ok()?;
     }
     Some(())
 }
 
 fn write(alloc: Global, text: &[u8], times: u32) -> Option<()> {
-    let catalogue = Catalogue::read_snapshot(alloc, text, true).ok()?;
+    let catalogue = read_snapshot(alloc, text, true).ok()?;
     for _ in 0..times {
-        catalogue.snapshot(alloc, true).ok()?;
+        snapshot(&catalogue, alloc, true).ok()?;
     }
     Some(())
 }

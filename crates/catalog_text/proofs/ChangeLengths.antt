@@ -16,10 +16,10 @@ use Rattle.catalog_change.specs.declared.change.Change.{Change}
 use Rattle.catalog_change.specs.declared.change.Change.TheVariants.{Defined, Dropped, Loaded, Labelled, Finished, Amended, Purged, CopyBegun, CopyDone, IndexPart}
 use Rattle.catalog_change.specs.declared.resource.Resource.{Resource}
 use Rattle.catalog_change.specs.declared.resource.ResourceKind.{ResourceKind}
-use Rattle.catalog_text.specs.Sections.{section_text}
-use Rattle.catalog_text.specs.Entries.{entry_text}
-use Rattle.catalog_text.specs.Resources.{resource_text}
-use Rattle.catalog_text.specs.Changes.{ssid_text, stream_text, fields_text, change_text}
+use Rattle.catalog_spelling.specs.Sections.{section_text}
+use Rattle.catalog_spelling.specs.Entries.{entry_text}
+use Rattle.catalog_spelling.specs.Resources.{resource_text}
+use Rattle.catalog_spelling.specs.Changes.{ssid_text, stream_text, fields_text, change_text}
 use Rattle.catalog_text.proofs.Lengths.{u32_length, u64_length, length_section}
 use Rattle.catalog_text.proofs.ResourceLengths.{same-items}
 

@@ -5,10 +5,10 @@ use Rattle.media_db.specs.declared.copies.Section.{Section}
 use Rattle.room_rules.specs.declared.schedule.Override.{Override}
 use Rattle.save_stream.specs.declared.entry.IndexEntry.{IndexEntry}
 use Rattle.save_stream.specs.Spelling.{short_number_text}
-use Rattle.catalog_text.specs.Fields.{number_bytes}
-use Rattle.catalog_text.specs.Sections.{section_text}
-use Rattle.catalog_text.specs.Entries.{entry_text}
-use Rattle.catalog_text.specs.Resources.{override_text}
+use Rattle.catalog_spelling.specs.Fields.{number_bytes}
+use Rattle.catalog_spelling.specs.Sections.{section_text}
+use Rattle.catalog_spelling.specs.Entries.{entry_text}
+use Rattle.catalog_spelling.specs.Resources.{override_text}
 
 pub u16_length : (number : ℕ) → length (number_bytes 2 number) ≡ 2
 unfolding number_bytes

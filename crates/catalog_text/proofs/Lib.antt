@@ -1,16 +1,4 @@
 pub mod Loops
-pub mod Steps
-pub mod Fields
-pub mod Lists
-pub mod Behind
 pub mod Lengths
-pub mod SectionLaws
-pub mod EntryLaws
-pub mod KindLaws
-pub mod ResourceLaws
 pub mod ResourceLengths
-pub mod HeadLaws
-pub mod ChangeLaws
 pub mod ChangeLengths
-pub mod Decodes
-pub mod ChangeTexts

@@ -1,9 +1,9 @@
 -- Reading items one after the other, as a loop does.
 use Rattle.std.proofs.Common.{◌≡◌, ℕ, suc, ◌-◌, ◌+◌, ◌≤◌, ◌<◌, List, [], ◌∷◌, ◌++◌, Ok, Err, refl, sym, ◌∙◌, arith}
-use Rattle.catalog_text.specs.declared.fault.FieldFault.{FieldFault}
-use Rattle.catalog_text.specs.declared.fault.FieldFault.TheVariants as faults
-use Rattle.catalog_text.specs.Reading.{Part, ◌>>=◌, Fails}
-use Rattle.catalog_text.specs.Lists.{items_at}
+use Rattle.catalog_spelling.specs.declared.fault.FieldFault.{FieldFault}
+use Rattle.catalog_spelling.specs.declared.fault.FieldFault.TheVariants as faults
+use Rattle.catalog_spelling.specs.Reading.{Part, ◌>>=◌, Fails}
+use Rattle.catalog_spelling.specs.Lists.{items_at}
 
 one-more : {X : Type 0} (item_at : List X → List ℕ → Part X) (count i : ℕ) (before : List X) (bytes : List ℕ) → i < count
     → items_at item_at (count - i) before bytes ≡ (item_at before bytes >>= λ item. items_at item_at (count - (i + 1)) (before ++ item.0 ∷ []) item.1)

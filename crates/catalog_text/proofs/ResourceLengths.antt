@@ -14,8 +14,8 @@ use Rattle.catalog_change.specs.declared.resource.Client.{Client}
 use Rattle.catalog_change.specs.declared.resource.Resource.{Resource}
 use Rattle.catalog_change.specs.declared.resource.Resource.TheVariants as resources
 use Rattle.catalog_change.specs.Resources.{IsResource, IsMember}
-use Rattle.catalog_text.specs.Fields.{byte_text}
-use Rattle.catalog_text.specs.Resources.{member_text, override_text, resource_text}
+use Rattle.catalog_spelling.specs.Fields.{byte_text}
+use Rattle.catalog_spelling.specs.Resources.{member_text, override_text, resource_text}
 use Rattle.catalog_text.proofs.Lengths.{u16_length, u32_length, length_override}
 
 -- items of at most so many bytes

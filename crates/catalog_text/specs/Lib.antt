@@ -1,12 +1,1 @@
-pub mod Reading
-pub mod Spelled
-pub mod Fields
-pub mod Lists
 pub mod Writing
-pub mod Sections
-pub mod Entries
-pub mod Kinds
-pub mod Resources
-pub mod Heads
-pub mod Changes
-pub mod Decoding

@@ -1,12 +1,12 @@
 //! Reads the fields of each kind of change.
 
 ghost use Rattle.std.specs.Prelude.{◌≡◌};
-ghost use Rattle.catalog_text.specs.Reading.{Gives};
-ghost use Rattle.catalog_text.specs.Changes.{defined_at, dropped_at, loaded_at, ejected_at};
-ghost use Rattle.catalog_text.specs.Changes.{labelled_at, begun_at, finished_at, aborted_at};
-ghost use Rattle.catalog_text.specs.Changes.{amended_at, deleted_at, purged_at, copy_begun_at};
-ghost use Rattle.catalog_text.specs.Changes.{copy_done_at, index_part_at, finished_parts_at};
-ghost use Rattle.catalog_text.specs.Changes.{change_alone_at};
+ghost use Rattle.catalog_spelling.specs.Reading.{Gives};
+ghost use Rattle.catalog_spelling.specs.Changes.{defined_at, dropped_at, loaded_at, ejected_at};
+ghost use Rattle.catalog_spelling.specs.Changes.{labelled_at, begun_at, finished_at, aborted_at};
+ghost use Rattle.catalog_spelling.specs.Changes.{amended_at, deleted_at, purged_at, copy_begun_at};
+ghost use Rattle.catalog_spelling.specs.Changes.{copy_done_at, index_part_at, finished_parts_at};
+ghost use Rattle.catalog_spelling.specs.Changes.{change_alone_at};
 
 use crate::FieldFault;
 use crate::entry::Entries;
@@ -33,7 +33,7 @@ const MAX_CAPACITY: u32 = 1_000_000;
 const MAX_PART: u32 = 10_000;
 
 /// A change, behind the byte of its kind.
-#[tactic(auto, unfolding(crate::specs::Kinds::by_kind_at))]
+#[tactic(auto, unfolding(catalog_spelling::specs::Kinds::by_kind_at))]
 pub(crate) fn read_change(alloc: Global, bytes: &[u8]) -> Result<(Change, &[u8]), FieldFault>
     ensures { Gives (λ x. (x.0, x.1.now)) result (change_alone_at bytes.now) }
 {
@@ -60,7 +60,7 @@ pub(crate) fn read_change(alloc: Global, bytes: &[u8]) -> Result<(Change, &[u8])
     }
 }
 
-#[tactic(auto, unfolding(crate::specs::Changes::defined_at))]
+#[tactic(auto, unfolding(catalog_spelling::specs::Changes::defined_at))]
 fn read_defined(alloc: Global, bytes: &[u8]) -> Result<(Change, &[u8]), FieldFault>
     ensures { Gives (λ x. (x.0, x.1.now)) result (defined_at bytes.now) }
 {
@@ -68,7 +68,7 @@ fn read_defined(alloc: Global, bytes: &[u8]) -> Result<(Change, &[u8]), FieldFau
     Ok((Change::Defined { resources }, rest))
 }
 
-#[tactic(auto, unfolding(crate::specs::Changes::dropped_at))]
+#[tactic(auto, unfolding(catalog_spelling::specs::Changes::dropped_at))]
 fn read_dropped(alloc: Global, bytes: &[u8]) -> Result<(Change, &[u8]), FieldFault>
     ensures { Gives (λ x. (x.0, x.1.now)) result (dropped_at bytes.now) }
 {
@@ -77,7 +77,7 @@ fn read_dropped(alloc: Global, bytes: &[u8]) -> Result<(Change, &[u8]), FieldFau
     Ok((Change::Dropped { kind, name }, rest))
 }
 
-#[tactic(auto, unfolding(crate::specs::Changes::loaded_at))]
+#[tactic(auto, unfolding(catalog_spelling::specs::Changes::loaded_at))]
 fn read_loaded(bytes: &[u8]) -> Result<(Change, &[u8]), FieldFault>
     ensures { Gives (λ x. (x.0, x.1.now)) result (loaded_at bytes.now) }
 {
@@ -90,7 +90,7 @@ fn read_loaded(bytes: &[u8]) -> Result<(Change, &[u8]), FieldFault>
     Ok((change, rest))
 }
 
-#[tactic(auto, unfolding(crate::specs::Changes::ejected_at))]
+#[tactic(auto, unfolding(catalog_spelling::specs::Changes::ejected_at))]
 fn read_ejected(bytes: &[u8]) -> Result<(Change, &[u8]), FieldFault>
     ensures { Gives (λ x. (x.0, x.1.now)) result (ejected_at bytes.now) }
 {
@@ -98,7 +98,7 @@ fn read_ejected(bytes: &[u8]) -> Result<(Change, &[u8]), FieldFault>
     Ok((Change::Ejected { slot }, rest))
 }
 
-#[tactic(auto, unfolding(crate::specs::Changes::labelled_at))]
+#[tactic(auto, unfolding(catalog_spelling::specs::Changes::labelled_at))]
 fn read_labelled(alloc: Global, bytes: &[u8]) -> Result<(Change, &[u8]), FieldFault>
     ensures { Gives (λ x. (x.0, x.1.now)) result (labelled_at bytes.now) }
 {
@@ -117,7 +117,7 @@ fn read_labelled(alloc: Global, bytes: &[u8]) -> Result<(Change, &[u8]), FieldFa
     Ok((change, rest))
 }
 
-#[tactic(auto, unfolding(crate::specs::Changes::begun_at))]
+#[tactic(auto, unfolding(catalog_spelling::specs::Changes::begun_at))]
 fn read_begun(alloc: Global, bytes: &[u8]) -> Result<(Change, &[u8]), FieldFault>
     ensures { Gives (λ x. (x.0, x.1.now)) result (begun_at bytes.now) }
 {
@@ -125,7 +125,7 @@ fn read_begun(alloc: Global, bytes: &[u8]) -> Result<(Change, &[u8]), FieldFault
     Ok((Change::Begun { head }, rest))
 }
 
-#[tactic(auto, unfolding(crate::specs::Changes::finished_at))]
+#[tactic(auto, unfolding(catalog_spelling::specs::Changes::finished_at))]
 fn read_finished(alloc: Global, bytes: &[u8]) -> Result<(Change, &[u8]), FieldFault>
     ensures { Gives (λ x. (x.0, x.1.now)) result (finished_at bytes.now) }
 {
@@ -146,7 +146,7 @@ fn read_finished(alloc: Global, bytes: &[u8]) -> Result<(Change, &[u8]), FieldFa
     Ok((change, rest))
 }
 
-#[tactic(auto, unfolding(crate::specs::Changes::aborted_at))]
+#[tactic(auto, unfolding(catalog_spelling::specs::Changes::aborted_at))]
 fn read_aborted(bytes: &[u8]) -> Result<(Change, &[u8]), FieldFault>
     ensures { Gives (λ x. (x.0, x.1.now)) result (aborted_at bytes.now) }
 {
@@ -154,7 +154,7 @@ fn read_aborted(bytes: &[u8]) -> Result<(Change, &[u8]), FieldFault>
     Ok((Change::Aborted { ssid: Ssid(ssid) }, rest))
 }
 
-#[tactic(auto, unfolding(crate::specs::Changes::amended_at))]
+#[tactic(auto, unfolding(catalog_spelling::specs::Changes::amended_at))]
 fn read_amended(bytes: &[u8]) -> Result<(Change, &[u8]), FieldFault>
     ensures { Gives (λ x. (x.0, x.1.now)) result (amended_at bytes.now) }
 {
@@ -171,7 +171,7 @@ fn read_amended(bytes: &[u8]) -> Result<(Change, &[u8]), FieldFault>
     Ok((change, rest))
 }
 
-#[tactic(auto, unfolding(crate::specs::Changes::deleted_at))]
+#[tactic(auto, unfolding(catalog_spelling::specs::Changes::deleted_at))]
 fn read_deleted(bytes: &[u8]) -> Result<(Change, &[u8]), FieldFault>
     ensures { Gives (λ x. (x.0, x.1.now)) result (deleted_at bytes.now) }
 {
@@ -179,7 +179,7 @@ fn read_deleted(bytes: &[u8]) -> Result<(Change, &[u8]), FieldFault>
     Ok((Change::Deleted { ssid: Ssid(ssid) }, rest))
 }
 
-#[tactic(auto, unfolding(crate::specs::Changes::purged_at))]
+#[tactic(auto, unfolding(catalog_spelling::specs::Changes::purged_at))]
 fn read_purged(alloc: Global, bytes: &[u8]) -> Result<(Change, &[u8]), FieldFault>
     ensures { Gives (λ x. (x.0, x.1.now)) result (purged_at bytes.now) }
 {
@@ -187,7 +187,7 @@ fn read_purged(alloc: Global, bytes: &[u8]) -> Result<(Change, &[u8]), FieldFaul
     Ok((Change::Purged { ssids }, rest))
 }
 
-#[tactic(auto, unfolding(crate::specs::Changes::copy_begun_at))]
+#[tactic(auto, unfolding(catalog_spelling::specs::Changes::copy_begun_at))]
 fn read_copy_begun(bytes: &[u8]) -> Result<(Change, &[u8]), FieldFault>
     ensures { Gives (λ x. (x.0, x.1.now)) result (copy_begun_at bytes.now) }
 {
@@ -200,7 +200,7 @@ fn read_copy_begun(bytes: &[u8]) -> Result<(Change, &[u8]), FieldFault>
     Ok((change, rest))
 }
 
-#[tactic(auto, unfolding(crate::specs::Changes::copy_done_at))]
+#[tactic(auto, unfolding(catalog_spelling::specs::Changes::copy_done_at))]
 fn read_copy_done(alloc: Global, bytes: &[u8]) -> Result<(Change, &[u8]), FieldFault>
     ensures { Gives (λ x. (x.0, x.1.now)) result (copy_done_at bytes.now) }
 {
@@ -217,7 +217,7 @@ fn read_copy_done(alloc: Global, bytes: &[u8]) -> Result<(Change, &[u8]), FieldF
     Ok((change, rest))
 }
 
-#[tactic(auto, unfolding(crate::specs::Changes::index_part_at))]
+#[tactic(auto, unfolding(catalog_spelling::specs::Changes::index_part_at))]
 fn read_index_part(alloc: Global, bytes: &[u8]) -> Result<(Change, &[u8]), FieldFault>
     ensures { Gives (λ x. (x.0, x.1.now)) result (index_part_at bytes.now) }
 {
@@ -232,7 +232,7 @@ fn read_index_part(alloc: Global, bytes: &[u8]) -> Result<(Change, &[u8]), Field
     Ok((change, rest))
 }
 
-#[tactic(auto, unfolding(crate::specs::Changes::finished_parts_at))]
+#[tactic(auto, unfolding(catalog_spelling::specs::Changes::finished_parts_at))]
 fn read_finished_parts(alloc: Global, bytes: &[u8]) -> Result<(Change, &[u8]), FieldFault>
     ensures { Gives (λ x. (x.0, x.1.now)) result (finished_parts_at bytes.now) }
 {

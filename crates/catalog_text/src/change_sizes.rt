@@ -2,7 +2,7 @@
 
 ghost use Rattle.std.specs.Prelude.{◌≡◌, ◌+◌, ◌*◌, ◌<◌, ◌^◌, ℕ, length};
 ghost use Rattle.catalog_change.specs.Changes.{IsChange};
-ghost use Rattle.catalog_text.specs.Changes.{fields_text, change_text};
+ghost use Rattle.catalog_spelling.specs.Changes.{fields_text, change_text};
 
 use crate::entry::Entries;
 use crate::list::items_length;

@@ -5,10 +5,10 @@ ghost use Rattle.save_stream.specs.Spelling.{short_text};
 ghost use Rattle.catalog_change.specs.Changes.{IsChange, AreSections};
 ghost use Rattle.catalog_change.specs.Resources.{IsShortName};
 ghost use Rattle.catalog_change.specs.declared.change.Change.TheVariants as changes;
-ghost use Rattle.catalog_text.specs.Fields.{number_bytes};
-ghost use Rattle.catalog_text.specs.Changes.{change_byte, fields_text, stream_text, FitsChange};
-ghost use Rattle.catalog_text.specs.Changes.{FitsStream};
-ghost use Rattle.catalog_text.specs.Sections.{sections_text};
+ghost use Rattle.catalog_spelling.specs.Fields.{number_bytes};
+ghost use Rattle.catalog_spelling.specs.Changes.{change_byte, fields_text, stream_text, FitsChange};
+ghost use Rattle.catalog_spelling.specs.Changes.{FitsStream};
+ghost use Rattle.catalog_spelling.specs.Sections.{sections_text};
 ghost use Rattle.catalog_text.specs.Writing.{HasRoom, Appends};
 
 use crate::entry::Entries;

@@ -1,10 +1,10 @@
 //! Decodes changes.
 
 ghost use Rattle.std.specs.Prelude.{◌≡◌, ◌≤◌, ◌-◌, length};
-ghost use Rattle.catalog_text.specs.Reading.{Gives};
-ghost use Rattle.catalog_text.specs.Changes.{change_at};
-ghost use Rattle.catalog_text.specs.Decoding.{Decodes};
-ghost use Rattle.catalog_text.specs.declared.fault.DecodeFault.TheVariants as faults;
+ghost use Rattle.catalog_spelling.specs.Reading.{Gives};
+ghost use Rattle.catalog_spelling.specs.Changes.{change_at};
+ghost use Rattle.catalog_spelling.specs.Decoding.{Decodes};
+ghost use Rattle.catalog_spelling.specs.declared.fault.DecodeFault.TheVariants as faults;
 
 use crate::change_reading::read_change;
 use crate::field::read_moment;
@@ -40,7 +40,7 @@ fn bad(bytes: &[u8], behind: usize) -> DecodeFault
 }
 
 // A moment and the change behind it.
-#[tactic(auto, unfolding(crate::specs::Changes::change_at))]
+#[tactic(auto, unfolding(catalog_spelling::specs::Changes::change_at))]
 fn read_stamped(alloc: Global, bytes: &[u8]) -> Result<(Moment, Change, &[u8]), FieldFault>
     ensures { Gives (λ x. (record { moment = x.0.0; change = x.1 }, x.2.now)) result
         (change_at bytes.now) }

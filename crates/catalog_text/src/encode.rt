@@ -3,8 +3,8 @@
 ghost use Rattle.std.specs.Prelude.{◌≡◌, ◌≤◌, length, IfOk, OnOk};
 ghost use Rattle.room_base.specs.Numbers.{max_moment};
 ghost use Rattle.catalog_change.specs.Changes.{IsChange};
-ghost use Rattle.catalog_text.specs.Changes.{change_text};
-ghost use Rattle.catalog_text.specs.Decoding.{IsStamped};
+ghost use Rattle.catalog_spelling.specs.Changes.{change_text};
+ghost use Rattle.catalog_spelling.specs.Decoding.{IsStamped};
 ghost use Rattle.catalog_text.specs.Writing.{HasRoom, Appends};
 
 use crate::change_sizes::change_length;

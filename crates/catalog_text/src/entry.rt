@@ -2,10 +2,10 @@
 
 ghost use Rattle.std.specs.Prelude.{◌≡◌, ◌≤◌, ◌+◌, ◌<◌, ◌^◌, List, ℕ, length};
 ghost use Rattle.catalog_change.specs.Changes.{IsEntry};
-ghost use Rattle.catalog_text.specs.Reading.{Gives};
-ghost use Rattle.catalog_text.specs.Fields.{coded, code_at};
-ghost use Rattle.catalog_text.specs.Entries.{entry_kinds, entry_byte, has_mtime, has_bytes};
-ghost use Rattle.catalog_text.specs.Entries.{low_path, entry_at, entry_text, FitsEntry};
+ghost use Rattle.catalog_spelling.specs.Reading.{Gives};
+ghost use Rattle.catalog_spelling.specs.Fields.{coded, code_at};
+ghost use Rattle.catalog_spelling.specs.Entries.{entry_kinds, entry_byte, has_mtime, has_bytes};
+ghost use Rattle.catalog_spelling.specs.Entries.{low_path, entry_at, entry_text, FitsEntry};
 ghost use Rattle.catalog_text.specs.Writing.{HasRoom, Appends};
 
 use crate::field::{known, read_u8, read_u64_if};
@@ -55,7 +55,7 @@ impl Format for Entries {
     }
 }
 
-#[tactic(auto, unfolding(crate::specs::Entries::entry_at))]
+#[tactic(auto, unfolding(catalog_spelling::specs::Entries::entry_at))]
 fn entry_of<'a>(
     alloc: Global,
     before: &[IndexEntry],
@@ -78,7 +78,7 @@ fn entry_of<'a>(
     Ok((entry, rest))
 }
 
-#[tactic(auto, unfolding(crate::specs::Fields::code_at))]
+#[tactic(auto, unfolding(catalog_spelling::specs::Fields::code_at))]
 fn read_entry_kind(bytes: &[u8]) -> Result<(EntryKind, &[u8]), FieldFault>
     ensures { Gives (λ x. (x.0, x.1.now)) result (code_at entry_kinds bytes.now) }
 {

@@ -1,11 +1,11 @@
 //! Reads single fields at the front of bytes. Each answers the value and the bytes behind it.
 
 ghost use Rattle.std.specs.Prelude.{◌≡◌, length, IfOk};
-ghost use Rattle.catalog_text.specs.Reading.{Gives, Allows, Knows};
-ghost use Rattle.catalog_text.specs.Fields.{byte_at, number_at, bytes_at, byte_within_at};
-ghost use Rattle.catalog_text.specs.Fields.{number_within_at, moment_at, code_at, flags};
-ghost use Rattle.catalog_text.specs.Fields.{number_from_at, number_above_at, given_number_at};
-ghost use Rattle.catalog_text.specs.Fields.{number_if_at};
+ghost use Rattle.catalog_spelling.specs.Reading.{Gives, Allows, Knows};
+ghost use Rattle.catalog_spelling.specs.Fields.{byte_at, number_at, bytes_at, byte_within_at};
+ghost use Rattle.catalog_spelling.specs.Fields.{number_within_at, moment_at, code_at, flags};
+ghost use Rattle.catalog_spelling.specs.Fields.{number_from_at, number_above_at, given_number_at};
+ghost use Rattle.catalog_spelling.specs.Fields.{number_if_at};
 
 use crate::FieldFault;
 use byteorder::{BigEndian, ByteOrder};
@@ -34,7 +34,7 @@ pub fn read_u8(bytes: &[u8]) -> Result<(u8, &[u8]), FieldFault>
 }
 
 /// A number of two bytes.
-#[tactic(auto, unfolding(crate::specs::Fields::number_at))]
+#[tactic(auto, unfolding(catalog_spelling::specs::Fields::number_at))]
 pub fn read_u16(bytes: &[u8]) -> Result<(u16, &[u8]), FieldFault>
     ensures { Gives (λ x. (x.0, x.1.now)) result (number_at 2 bytes.now) }
 {
@@ -43,7 +43,7 @@ pub fn read_u16(bytes: &[u8]) -> Result<(u16, &[u8]), FieldFault>
 }
 
 /// A number of four bytes.
-#[tactic(auto, unfolding(crate::specs::Fields::number_at))]
+#[tactic(auto, unfolding(catalog_spelling::specs::Fields::number_at))]
 pub fn read_u32(bytes: &[u8]) -> Result<(u32, &[u8]), FieldFault>
     ensures { Gives (λ x. (x.0, x.1.now)) result (number_at 4 bytes.now) }
 {
@@ -52,7 +52,7 @@ pub fn read_u32(bytes: &[u8]) -> Result<(u32, &[u8]), FieldFault>
 }
 
 /// A number of eight bytes.
-#[tactic(auto, unfolding(crate::specs::Fields::number_at))]
+#[tactic(auto, unfolding(catalog_spelling::specs::Fields::number_at))]
 pub fn read_u64(bytes: &[u8]) -> Result<(u64, &[u8]), FieldFault>
     ensures { Gives (λ x. (x.0, x.1.now)) result (number_at 8 bytes.now) }
 {
@@ -61,7 +61,7 @@ pub fn read_u64(bytes: &[u8]) -> Result<(u64, &[u8]), FieldFault>
 }
 
 /// So many bytes.
-#[tactic(auto, unfolding(crate::specs::Fields::bytes_at))]
+#[tactic(auto, unfolding(catalog_spelling::specs::Fields::bytes_at))]
 pub fn read_bytes(size: usize, bytes: &[u8]) -> Result<(&[u8], &[u8]), FieldFault>
     ensures read { Gives (λ x. (x.0.now, x.1.now)) result (bytes_at size bytes.now) }
     ensures size { IfOk result (λ x. length x.0.now ≡ size) }
@@ -79,7 +79,7 @@ pub fn read_digest(bytes: &[u8]) -> Result<([u8; 32], &[u8]), FieldFault>
 }
 
 /// A byte from `least` to `most`.
-#[tactic(auto, unfolding(crate::specs::Fields::byte_within_at))]
+#[tactic(auto, unfolding(catalog_spelling::specs::Fields::byte_within_at))]
 pub fn read_u8_within(least: u8, most: u8, bytes: &[u8]) -> Result<(u8, &[u8]), FieldFault>
     ensures { Gives (λ x. (x.0, x.1.now)) result (byte_within_at least most bytes.now) }
 {
@@ -89,7 +89,7 @@ pub fn read_u8_within(least: u8, most: u8, bytes: &[u8]) -> Result<(u8, &[u8]), 
 }
 
 /// A number of two bytes from `least` to `most`.
-#[tactic(auto, unfolding(crate::specs::Fields::number_within_at))]
+#[tactic(auto, unfolding(catalog_spelling::specs::Fields::number_within_at))]
 pub fn read_u16_within(least: u16, most: u16, bytes: &[u8]) -> Result<(u16, &[u8]), FieldFault>
     ensures { Gives (λ x. (x.0, x.1.now)) result (number_within_at 2 least most bytes.now) }
 {
@@ -99,7 +99,7 @@ pub fn read_u16_within(least: u16, most: u16, bytes: &[u8]) -> Result<(u16, &[u8
 }
 
 /// A number of four bytes from `least` to `most`.
-#[tactic(auto, unfolding(crate::specs::Fields::number_within_at))]
+#[tactic(auto, unfolding(catalog_spelling::specs::Fields::number_within_at))]
 pub fn read_u32_within(least: u32, most: u32, bytes: &[u8]) -> Result<(u32, &[u8]), FieldFault>
     ensures { Gives (λ x. (x.0, x.1.now)) result (number_within_at 4 least most bytes.now) }
 {
@@ -109,7 +109,7 @@ pub fn read_u32_within(least: u32, most: u32, bytes: &[u8]) -> Result<(u32, &[u8
 }
 
 /// A number of eight bytes from `least` to `most`.
-#[tactic(auto, unfolding(crate::specs::Fields::number_within_at))]
+#[tactic(auto, unfolding(catalog_spelling::specs::Fields::number_within_at))]
 pub fn read_u64_within(least: u64, most: u64, bytes: &[u8]) -> Result<(u64, &[u8]), FieldFault>
     ensures { Gives (λ x. (x.0, x.1.now)) result (number_within_at 8 least most bytes.now) }
 {
@@ -119,7 +119,7 @@ pub fn read_u64_within(least: u64, most: u64, bytes: &[u8]) -> Result<(u64, &[u8
 }
 
 /// A number of eight bytes that is at least this one.
-#[tactic(auto, unfolding(crate::specs::Fields::number_from_at))]
+#[tactic(auto, unfolding(catalog_spelling::specs::Fields::number_from_at))]
 pub fn read_u64_from(least: u64, bytes: &[u8]) -> Result<(u64, &[u8]), FieldFault>
     ensures { Gives (λ x. (x.0, x.1.now)) result (number_from_at 8 least bytes.now) }
 {
@@ -129,7 +129,7 @@ pub fn read_u64_from(least: u64, bytes: &[u8]) -> Result<(u64, &[u8]), FieldFaul
 }
 
 /// A number of eight bytes that is above this one.
-#[tactic(auto, unfolding(crate::specs::Fields::number_above_at))]
+#[tactic(auto, unfolding(catalog_spelling::specs::Fields::number_above_at))]
 pub fn read_u64_above(low: u64, bytes: &[u8]) -> Result<(u64, &[u8]), FieldFault>
     ensures { Gives (λ x. (x.0, x.1.now)) result (number_above_at 8 low bytes.now) }
 {
@@ -139,7 +139,7 @@ pub fn read_u64_above(low: u64, bytes: &[u8]) -> Result<(u64, &[u8]), FieldFault
 }
 
 /// A number of eight bytes that has to be this one.
-#[tactic(auto, unfolding(crate::specs::Fields::given_number_at))]
+#[tactic(auto, unfolding(catalog_spelling::specs::Fields::given_number_at))]
 pub fn expect_u64(given: u64, bytes: &[u8]) -> Result<(u64, &[u8]), FieldFault>
     ensures { Gives (λ x. (x.0, x.1.now)) result (given_number_at 8 given bytes.now) }
 {
@@ -149,7 +149,7 @@ pub fn expect_u64(given: u64, bytes: &[u8]) -> Result<(u64, &[u8]), FieldFault>
 }
 
 /// A number of eight bytes, which has to be 0 where there is none.
-#[tactic(auto, unfolding(crate::specs::Fields::number_if_at))]
+#[tactic(auto, unfolding(catalog_spelling::specs::Fields::number_if_at))]
 pub fn read_u64_if(some: bool, bytes: &[u8]) -> Result<(u64, &[u8]), FieldFault>
     ensures { Gives (λ x. (x.0, x.1.now)) result (number_if_at some bytes.now) }
 {
@@ -179,7 +179,7 @@ pub fn read_moment(bytes: &[u8]) -> Result<(Moment, &[u8]), FieldFault>
 }
 
 /// A byte that is 0 or 1.
-#[tactic(auto, unfolding(crate::specs::Fields::code_at))]
+#[tactic(auto, unfolding(catalog_spelling::specs::Fields::code_at))]
 pub fn read_flag(bytes: &[u8]) -> Result<(bool, &[u8]), FieldFault>
     ensures { Gives (λ x. (x.0, x.1.now)) result (code_at flags bytes.now) }
 {

@@ -3,8 +3,8 @@
 ghost use Rattle.std.specs.Prelude.{◌≡◌, SomeIff, IsTrue};
 ghost use Rattle.save_stream.specs.Reading.{is_level};
 ghost use Rattle.save_stream.specs.Spelling.{IsHead, head_text};
-ghost use Rattle.catalog_text.specs.Reading.{Gives};
-ghost use Rattle.catalog_text.specs.Heads.{head_at};
+ghost use Rattle.catalog_spelling.specs.Reading.{Gives};
+ghost use Rattle.catalog_spelling.specs.Heads.{head_at};
 ghost use Rattle.catalog_text.specs.Writing.{HasRoom, Appends};
 
 use crate::FieldFault;
@@ -15,7 +15,7 @@ use save_stream::{Level, SetHead, encode_head_into};
 use std::alloc::Global;
 
 /// The head of a stream.
-#[tactic(auto, unfolding(crate::specs::Heads::head_at))]
+#[tactic(auto, unfolding(catalog_spelling::specs::Heads::head_at))]
 pub fn read_head(alloc: Global, bytes: &[u8]) -> Result<(SetHead, &[u8]), FieldFault>
     ensures { Gives (λ x. (x.0, x.1.now)) result (head_at bytes.now) }
 {

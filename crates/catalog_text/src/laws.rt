@@ -4,10 +4,10 @@ ghost use Rattle.std.specs.Prelude.{◌≡◌, ◌⊎◌, ◌≤◌, ℕ, List, 
 ghost use Rattle.room_base.specs.declared.numbers.Moment.{Moment};
 ghost use Rattle.save_stream.specs.Standing.{AreBytes};
 ghost use Rattle.catalog_change.specs.declared.change.Change.{Change};
-ghost use Rattle.catalog_text.specs.declared.fault.DecodeFault.{DecodeFault};
-ghost use Rattle.catalog_text.specs.declared.fault.DecodeFault.TheVariants as faults;
-ghost use Rattle.catalog_text.specs.Changes.{change_at, change_text};
-ghost use Rattle.catalog_text.specs.Decoding.{ChangeText, Decodes, HasBad, IsStamped};
+ghost use Rattle.catalog_spelling.specs.declared.fault.DecodeFault.{DecodeFault};
+ghost use Rattle.catalog_spelling.specs.declared.fault.DecodeFault.TheVariants as faults;
+ghost use Rattle.catalog_spelling.specs.Changes.{change_at, change_text};
+ghost use Rattle.catalog_spelling.specs.Decoding.{ChangeText, Decodes, HasBad, IsStamped};
 
 /// What a change is encoded as is decoded as that change, unless memory runs out.
 pub fn encoded_changes_are_decoded()

@@ -1,6 +1,6 @@
-//! How changes of the catalogue are spelled as bytes: each in one spelling, which is read back with
-//! the first field that isn't allowed. The words for single fields and lists serve snapshots too.
-//! docs/formats.md has the bytes.
+//! Writes changes of the catalogue as bytes, each in its one spelling, and reads them back with the
+//! first field that isn't allowed. What single fields and lists are read and written by serves
+//! snapshots too. The definitions are those of `catalog_spelling`; docs/formats.md has the bytes.
 #![tactic(auto)]
 
 mod change_reading;
@@ -9,7 +9,6 @@ mod change_writing;
 mod decode;
 mod encode;
 mod entry;
-mod fault;
 mod field;
 mod head;
 mod laws;
@@ -24,11 +23,11 @@ mod section;
 mod ssids;
 mod text;
 
+pub use catalog_spelling::{DecodeFault, FieldFault};
 pub use change_sizes::change_length;
 pub use decode::decode_change;
 pub use encode::{encode_change, encode_change_into};
 pub use entry::Entries;
-pub use fault::{DecodeFault, FieldFault};
 pub use field::{
     allow, expect_u64, known, read_bytes, read_digest, read_flag, read_moment, read_u8,
     read_u8_within, read_u16, read_u16_within, read_u32, read_u32_within, read_u64, read_u64_above,

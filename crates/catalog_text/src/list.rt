@@ -2,10 +2,10 @@
 
 ghost use Rattle.std.specs.Prelude.{◌≡◌, ◌≤◌, ◌<◌, ◌+◌, ◌^◌, List, ℕ, [], length};
 ghost use Rattle.std.specs.List.{flat_map, AllByRecursion};
-ghost use Rattle.catalog_text.specs.Reading.{Gives, Part};
-ghost use Rattle.catalog_text.specs.Fields.{byte_text, number_bytes, byte_within_at};
-ghost use Rattle.catalog_text.specs.Fields.{number_within_at};
-ghost use Rattle.catalog_text.specs.Lists.{items_at, list_at, list_text};
+ghost use Rattle.catalog_spelling.specs.Reading.{Gives, Part};
+ghost use Rattle.catalog_spelling.specs.Fields.{byte_text, number_bytes, byte_within_at};
+ghost use Rattle.catalog_spelling.specs.Fields.{number_within_at};
+ghost use Rattle.catalog_spelling.specs.Lists.{items_at, list_at, list_text};
 ghost use Rattle.catalog_text.specs.Writing.{HasRoom, Appends};
 
 use crate::FieldFault;
@@ -75,7 +75,7 @@ pub fn read_items<F: Format>(
 }
 
 /// Reads a list of `least` to `most` items behind one byte of count.
-#[tactic(auto, unfolding(crate::specs::Lists::list_at))]
+#[tactic(auto, unfolding(catalog_spelling::specs::Lists::list_at))]
 pub fn read_list_u8<F: Format>(
     alloc: Global,
     least: u8,
@@ -90,7 +90,7 @@ pub fn read_list_u8<F: Format>(
 }
 
 /// Reads a list of `least` to `most` items behind two bytes of count.
-#[tactic(auto, unfolding(crate::specs::Lists::list_at))]
+#[tactic(auto, unfolding(catalog_spelling::specs::Lists::list_at))]
 pub fn read_list_u16<F: Format>(
     alloc: Global,
     least: u16,
@@ -105,7 +105,7 @@ pub fn read_list_u16<F: Format>(
 }
 
 /// Reads a list of `least` to `most` items behind four bytes of count.
-#[tactic(auto, unfolding(crate::specs::Lists::list_at))]
+#[tactic(auto, unfolding(catalog_spelling::specs::Lists::list_at))]
 pub fn read_list_u32<F: Format>(
     alloc: Global,
     least: u32,

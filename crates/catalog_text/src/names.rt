@@ -2,8 +2,8 @@
 
 ghost use Rattle.std.specs.Prelude.{◌≡◌, ◌<◌, ◌^◌, List, ℕ, length};
 ghost use Rattle.save_stream.specs.Spelling.{short_text, IsNameTo};
-ghost use Rattle.catalog_text.specs.Reading.{Gives};
-ghost use Rattle.catalog_text.specs.Fields.{name_at};
+ghost use Rattle.catalog_spelling.specs.Reading.{Gives};
+ghost use Rattle.catalog_spelling.specs.Fields.{name_at};
 ghost use Rattle.catalog_text.specs.Writing.{HasRoom, Appends};
 
 use crate::put::put_text;

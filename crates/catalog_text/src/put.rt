@@ -1,7 +1,7 @@
 //! Writes single fields at the end of bytes that have room for them, so that no memory is taken.
 
 ghost use Rattle.std.specs.Prelude.{◌≡◌, ◌+◌, ◌≤◌, ◌<◌, ◌^◌, length, vec_len, vec_capacity};
-ghost use Rattle.catalog_text.specs.Fields.{number_bytes, byte_text, flag_byte};
+ghost use Rattle.catalog_spelling.specs.Fields.{number_bytes, byte_text, flag_byte};
 ghost use Rattle.catalog_text.specs.Writing.{HasRoom, Appends};
 ghost use Rattle.save_stream.specs.Spelling.{short_text, long_text};
 
@@ -26,7 +26,7 @@ pub fn put_u8(into: &mut Vec<u8>, byte: u8)
 }
 
 /// A number of two bytes.
-#[tactic(auto, unfolding(crate::specs::Fields::number_bytes))]
+#[tactic(auto, unfolding(catalog_spelling::specs::Fields::number_bytes))]
 pub fn put_u16(into: &mut Vec<u8>, number: u16)
     requires { HasRoom into.old (number_bytes 2 number) }
     ensures { Appends into.old into.new (number_bytes 2 number) }
@@ -35,7 +35,7 @@ pub fn put_u16(into: &mut Vec<u8>, number: u16)
 }
 
 /// A number of four bytes.
-#[tactic(auto, unfolding(crate::specs::Fields::number_bytes))]
+#[tactic(auto, unfolding(catalog_spelling::specs::Fields::number_bytes))]
 pub fn put_u32(into: &mut Vec<u8>, number: u32)
     requires { HasRoom into.old (number_bytes 4 number) }
     ensures { Appends into.old into.new (number_bytes 4 number) }
@@ -44,7 +44,7 @@ pub fn put_u32(into: &mut Vec<u8>, number: u32)
 }
 
 /// A number of eight bytes.
-#[tactic(auto, unfolding(crate::specs::Fields::number_bytes))]
+#[tactic(auto, unfolding(catalog_spelling::specs::Fields::number_bytes))]
 pub fn put_u64(into: &mut Vec<u8>, number: u64)
     requires { HasRoom into.old (number_bytes 8 number) }
     ensures { Appends into.old into.new (number_bytes 8 number) }
@@ -72,7 +72,7 @@ pub fn put_text(into: &mut Vec<u8>, text: &Name)
 }
 
 /// A text behind two bytes of length.
-#[tactic(auto, unfolding(crate::specs::Fields::number_bytes, save_stream::specs::Spelling::short_number_text))]
+#[tactic(auto, unfolding(catalog_spelling::specs::Fields::number_bytes, save_stream::specs::Spelling::short_number_text))]
 pub fn put_long_text(into: &mut Vec<u8>, text: &Name)
     requires long { length text.now < 2 ^ 16 }
     requires room { HasRoom into.old (long_text text.now) }

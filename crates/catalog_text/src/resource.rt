@@ -3,8 +3,8 @@
 ghost use Rattle.std.specs.Prelude.{◌≡◌, ◌<◌, ◌^◌, List, ℕ, length};
 ghost use Rattle.catalog_change.specs.Resources.{IsResource};
 ghost use Rattle.catalog_change.specs.declared.resource.Resource.TheVariants as resources;
-ghost use Rattle.catalog_text.specs.Reading.{Gives};
-ghost use Rattle.catalog_text.specs.Resources.{resource_at, resource_text, FitsResource};
+ghost use Rattle.catalog_spelling.specs.Reading.{Gives};
+ghost use Rattle.catalog_spelling.specs.Resources.{resource_at, resource_text, FitsResource};
 ghost use Rattle.catalog_text.specs.Writing.{HasRoom, Appends};
 
 use crate::list::items_length;

@@ -2,10 +2,10 @@
 
 ghost use Rattle.std.specs.Prelude.{◌≡◌, ◌≤◌, List, ℕ};
 ghost use Rattle.catalog_change.specs.Resources.{IsMember};
-ghost use Rattle.catalog_text.specs.Reading.{Gives};
-ghost use Rattle.catalog_text.specs.Fields.{byte_text};
-ghost use Rattle.catalog_text.specs.Resources.{level_at, action_at, is_next_day, override_at};
-ghost use Rattle.catalog_text.specs.Resources.{override_text, member_at, member_text};
+ghost use Rattle.catalog_spelling.specs.Reading.{Gives};
+ghost use Rattle.catalog_spelling.specs.Fields.{byte_text};
+ghost use Rattle.catalog_spelling.specs.Resources.{level_at, action_at, is_next_day, override_at};
+ghost use Rattle.catalog_spelling.specs.Resources.{override_text, member_at, member_text};
 ghost use Rattle.catalog_text.specs.Writing.{HasRoom, Appends};
 
 use crate::field::{allow, known, read_u8, read_u32};
@@ -56,7 +56,7 @@ impl Format for Levels {
 }
 
 /// A rank from 0 to 10.
-#[tactic(auto, unfolding(crate::specs::Fields::byte_within_at))]
+#[tactic(auto, unfolding(catalog_spelling::specs::Fields::byte_within_at))]
 pub fn read_level(bytes: &[u8]) -> Result<(Level, &[u8]), FieldFault>
     ensures { Gives (λ x. (x.0, x.1.now)) result (level_at bytes.now) }
 {
@@ -100,7 +100,7 @@ impl Format for Actions {
     }
 }
 
-#[tactic(auto, unfolding(crate::specs::Fields::byte_within_at))]
+#[tactic(auto, unfolding(catalog_spelling::specs::Fields::byte_within_at))]
 fn read_action(bytes: &[u8]) -> Result<(Action, &[u8]), FieldFault>
     ensures { Gives (λ x. (x.0, x.1.now)) result (action_at bytes.now) }
 {
@@ -146,7 +146,7 @@ impl Format for Overrides {
     }
 }
 
-#[tactic(auto, unfolding(crate::specs::Resources::override_at, crate::specs::Fields::byte_within_at))]
+#[tactic(auto, unfolding(catalog_spelling::specs::Resources::override_at, catalog_spelling::specs::Fields::byte_within_at))]
 fn override_of<'a>(before: &[Override], bytes: &'a [u8]) -> Result<(Override, &'a [u8]), FieldFault>
     ensures { Gives (λ x. (x.0, x.1.now)) result (override_at before.now bytes.now) }
 {
@@ -201,7 +201,7 @@ impl Format for Members {
     }
 }
 
-#[tactic(auto, unfolding(crate::specs::Resources::member_at))]
+#[tactic(auto, unfolding(catalog_spelling::specs::Resources::member_at))]
 fn member_of(alloc: Global, bytes: &[u8]) -> Result<(Member, &[u8]), FieldFault>
     ensures { Gives (λ x. (x.0, x.1.now)) result (member_at bytes.now) }
 {

@@ -1,11 +1,11 @@
 //! Reads resources.
 
 ghost use Rattle.std.specs.Prelude.{◌≡◌};
-ghost use Rattle.catalog_text.specs.Reading.{Gives};
-ghost use Rattle.catalog_text.specs.Fields.{coded, code_at};
-ghost use Rattle.catalog_text.specs.Resources.{unit_kinds, period_kinds, policy_at, pool_at};
-ghost use Rattle.catalog_text.specs.Resources.{client_at, schedule_at, group_at, resource_at};
-ghost use Rattle.catalog_text.specs.Resources.{resource_kinds};
+ghost use Rattle.catalog_spelling.specs.Reading.{Gives};
+ghost use Rattle.catalog_spelling.specs.Fields.{coded, code_at};
+ghost use Rattle.catalog_spelling.specs.Resources.{unit_kinds, period_kinds, policy_at, pool_at};
+ghost use Rattle.catalog_spelling.specs.Resources.{client_at, schedule_at, group_at, resource_at};
+ghost use Rattle.catalog_spelling.specs.Resources.{resource_kinds};
 
 use crate::FieldFault;
 use crate::field::{known, read_u8, read_u32_within};
@@ -30,7 +30,7 @@ const MAX_MEMBERS: u16 = 256;
 const MAX_COUNT: u32 = 9_999;
 
 /// A resource, behind the byte of its kind.
-#[tactic(auto, unfolding(crate::specs::Kinds::by_kind_at))]
+#[tactic(auto, unfolding(catalog_spelling::specs::Kinds::by_kind_at))]
 pub fn read_resource(alloc: Global, bytes: &[u8]) -> Result<(Resource, &[u8]), FieldFault>
     ensures { Gives (λ x. (x.0, x.1.now)) result (resource_at bytes.now) }
 {
@@ -48,7 +48,7 @@ pub fn read_resource(alloc: Global, bytes: &[u8]) -> Result<(Resource, &[u8]), F
 }
 
 /// The byte of a kind of resource.
-#[tactic(auto, unfolding(crate::specs::Fields::code_at))]
+#[tactic(auto, unfolding(catalog_spelling::specs::Fields::code_at))]
 pub fn read_resource_kind(bytes: &[u8]) -> Result<(ResourceKind, &[u8]), FieldFault>
     ensures { Gives (λ x. (x.0, x.1.now)) result (code_at resource_kinds bytes.now) }
 {
@@ -70,7 +70,7 @@ fn kind_of(byte: u8) -> Option<ResourceKind>
     }
 }
 
-#[tactic(auto, unfolding(crate::specs::Resources::policy_at, crate::specs::Fields::code_at))]
+#[tactic(auto, unfolding(catalog_spelling::specs::Resources::policy_at, catalog_spelling::specs::Fields::code_at))]
 fn read_policy(alloc: Global, bytes: &[u8]) -> Result<(Resource, &[u8]), FieldFault>
     ensures { Gives (λ x. (x.0, x.1.now)) result (policy_at bytes.now) }
 {
@@ -93,7 +93,7 @@ fn unit_of(byte: u8) -> Option<Unit>
     }
 }
 
-#[tactic(auto, unfolding(crate::specs::Resources::pool_at))]
+#[tactic(auto, unfolding(catalog_spelling::specs::Resources::pool_at))]
 fn read_pool(alloc: Global, bytes: &[u8]) -> Result<(Resource, &[u8]), FieldFault>
     ensures { Gives (λ x. (x.0, x.1.now)) result (pool_at bytes.now) }
 {
@@ -112,7 +112,7 @@ fn read_pool(alloc: Global, bytes: &[u8]) -> Result<(Resource, &[u8]), FieldFaul
     Ok((Resource::Pool(pool), rest))
 }
 
-#[tactic(auto, unfolding(crate::specs::Resources::client_at))]
+#[tactic(auto, unfolding(catalog_spelling::specs::Resources::client_at))]
 fn read_client(alloc: Global, bytes: &[u8]) -> Result<(Resource, &[u8]), FieldFault>
     ensures { Gives (λ x. (x.0, x.1.now)) result (client_at bytes.now) }
 {
@@ -127,7 +127,7 @@ fn read_client(alloc: Global, bytes: &[u8]) -> Result<(Resource, &[u8]), FieldFa
     Ok((Resource::Client(client), rest))
 }
 
-#[tactic(auto, unfolding(crate::specs::Resources::schedule_at, crate::specs::Fields::code_at))]
+#[tactic(auto, unfolding(catalog_spelling::specs::Resources::schedule_at, catalog_spelling::specs::Fields::code_at))]
 fn read_schedule(alloc: Global, bytes: &[u8]) -> Result<(Resource, &[u8]), FieldFault>
     ensures { Gives (λ x. (x.0, x.1.now)) result (schedule_at bytes.now) }
 {
@@ -155,7 +155,7 @@ fn period_of(byte: u8) -> Option<Period>
     }
 }
 
-#[tactic(auto, unfolding(crate::specs::Resources::group_at))]
+#[tactic(auto, unfolding(catalog_spelling::specs::Resources::group_at))]
 fn read_group(alloc: Global, bytes: &[u8]) -> Result<(Resource, &[u8]), FieldFault>
     ensures { Gives (λ x. (x.0, x.1.now)) result (group_at bytes.now) }
 {

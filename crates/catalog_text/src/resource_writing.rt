@@ -4,8 +4,8 @@ ghost use Rattle.std.specs.Prelude.{◌≡◌, ◌<◌, ◌^◌, length};
 ghost use Rattle.catalog_change.specs.Resources.{IsPolicy, IsPool, IsClient, IsSchedule, IsGroup};
 ghost use Rattle.catalog_change.specs.Resources.{IsResource};
 ghost use Rattle.catalog_change.specs.declared.resource.Resource.TheVariants as resources;
-ghost use Rattle.catalog_text.specs.Resources.{resource_byte, resource_text, fields_text};
-ghost use Rattle.catalog_text.specs.Resources.{unit_byte, period_byte, FitsResource};
+ghost use Rattle.catalog_spelling.specs.Resources.{resource_byte, resource_text, fields_text};
+ghost use Rattle.catalog_spelling.specs.Resources.{unit_byte, period_byte, FitsResource};
 ghost use Rattle.catalog_text.specs.Writing.{HasRoom, Appends};
 
 use crate::list::{put_list_u8, put_list_u16};

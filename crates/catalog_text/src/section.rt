@@ -2,8 +2,8 @@
 
 ghost use Rattle.std.specs.Prelude.{◌≡◌, ◌≤◌, List, ℕ};
 ghost use Rattle.catalog_change.specs.Changes.{IsSection};
-ghost use Rattle.catalog_text.specs.Reading.{Gives};
-ghost use Rattle.catalog_text.specs.Sections.{end_of, section_at, section_text, FitsSection};
+ghost use Rattle.catalog_spelling.specs.Reading.{Gives};
+ghost use Rattle.catalog_spelling.specs.Sections.{end_of, section_at, section_text, FitsSection};
 ghost use Rattle.catalog_text.specs.Writing.{HasRoom, Appends};
 
 use crate::field::{expect_u64, read_u64, read_u64_above, read_u64_from};
@@ -52,7 +52,7 @@ impl Format for Sections {
     }
 }
 
-#[tactic(auto, unfolding(crate::specs::Sections::section_at))]
+#[tactic(auto, unfolding(catalog_spelling::specs::Sections::section_at))]
 fn section_of<'a>(before: &[Section], bytes: &'a [u8]) -> Result<(Section, &'a [u8]), FieldFault>
     ensures { Gives (λ x. (x.0, x.1.now)) result (section_at before.now bytes.now) }
 {

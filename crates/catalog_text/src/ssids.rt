@@ -2,8 +2,8 @@
 
 ghost use Rattle.std.specs.Prelude.{◌≡◌, ◌<◌, ◌^◌, List, ℕ};
 ghost use Rattle.catalog_change.specs.Resources.{IsResource};
-ghost use Rattle.catalog_text.specs.Reading.{Gives};
-ghost use Rattle.catalog_text.specs.Changes.{is_next_ssid, ssid_at, ssid_text};
+ghost use Rattle.catalog_spelling.specs.Reading.{Gives};
+ghost use Rattle.catalog_spelling.specs.Changes.{is_next_ssid, ssid_at, ssid_text};
 ghost use Rattle.catalog_text.specs.Writing.{HasRoom, Appends};
 
 use crate::field::{allow, read_u64};
@@ -48,7 +48,7 @@ impl Format for Ssids {
     }
 }
 
-#[tactic(auto, unfolding(crate::specs::Changes::ssid_at))]
+#[tactic(auto, unfolding(catalog_spelling::specs::Changes::ssid_at))]
 fn ssid_of<'a>(before: &[Ssid], bytes: &'a [u8]) -> Result<(Ssid, &'a [u8]), FieldFault>
     ensures { Gives (λ x. (x.0, x.1.now)) result (ssid_at before.now bytes.now) }
 {

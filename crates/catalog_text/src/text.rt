@@ -1,8 +1,8 @@
 //! Reads texts behind their lengths.
 
 ghost use Rattle.std.specs.Prelude.{◌≡◌};
-ghost use Rattle.catalog_text.specs.Reading.{Gives};
-ghost use Rattle.catalog_text.specs.Fields.{text_at, name_at, path_at};
+ghost use Rattle.catalog_spelling.specs.Reading.{Gives};
+ghost use Rattle.catalog_spelling.specs.Fields.{text_at, name_at, path_at};
 
 use crate::FieldFault;
 use crate::field::{read_bytes, read_u8_within, read_u16_within};
@@ -11,7 +11,7 @@ use std::alloc::Global;
 use std::cmp::Ordering;
 
 /// A name of `least` to `most` bytes, behind one byte of length.
-#[tactic(auto, using(save_stream::proofs::Names::name_is, save_stream::proofs::Names::no_name), unfolding(crate::specs::Fields::text_at))]
+#[tactic(auto, using(save_stream::proofs::Names::name_is, save_stream::proofs::Names::no_name), unfolding(catalog_spelling::specs::Fields::text_at))]
 pub fn read_text(least: u8, most: u8, bytes: &[u8]) -> Result<(&str, &[u8]), FieldFault>
     ensures { Gives (λ x. (x.0.now, x.1.now)) result (text_at least most bytes.now) }
 {
@@ -34,7 +34,7 @@ pub fn read_name(alloc: Global, most: u8, bytes: &[u8]) -> Result<(Name, &[u8]),
 }
 
 /// A path that stands above `last` by bytes, behind two bytes of length.
-#[tactic(auto, using(save_stream::proofs::Names::path_is, save_stream::proofs::Names::no_path), unfolding(crate::specs::Fields::path_at, save_stream::specs::Reading::is_below))]
+#[tactic(auto, using(save_stream::proofs::Names::path_is, save_stream::proofs::Names::no_path), unfolding(catalog_spelling::specs::Fields::path_at, save_stream::specs::Reading::is_below))]
 pub fn read_path<'a>(last: &[u8], bytes: &'a [u8]) -> Result<(&'a str, &'a [u8]), FieldFault>
     ensures { Gives (λ x. (x.0.now, x.1.now)) result (path_at last.now bytes.now) }
 {

@@ -4,8 +4,8 @@ use Rattle.room_disk.specs.Disk.{DiskView, Image, Images, IsDisk}
 use Rattle.cat_journal.specs.Journal.{JournalView}
 use Rattle.room_catalog.specs.Held.{CatalogueLists, catalogue_of}
 use Rattle.room_effects.specs.View.{RoomView, opened_room}
-use Rattle.journal_replay.specs.Files.{ReplaysTo}
-use Rattle.journal_replay.proofs.Once.{one_catalogue}
+use Rattle.journal_files.specs.Files.{ReplaysTo}
+use Rattle.journal_files.proofs.Once.{one_catalogue}
 use Rattle.room_turns.specs.Runs.{Passage, trail_of}
 use Rattle.room_turns.specs.Served.{ReopensBehind, ReopensInRun}
 use Rattle.desk.specs.declared.end.DeskEnd.{DeskEnd}

@@ -9,7 +9,7 @@ use Rattle.room_effects.proofs.Opening.{opened_is_ready, opened_is_room}
 use Rattle.room_effects.proofs.Readiness.{ready_quiet}
 use Rattle.room_effects.proofs.Standing.{reopens_kept}
 use Rattle.journal_replay.specs.Answers.{ReplayCause}
-use Rattle.journal_replay.specs.Files.{IsDamaged, IsSnapshot, ReplaysTo}
+use Rattle.journal_files.specs.Files.{IsDamaged, IsSnapshot, ReplaysTo}
 use Rattle.journal_replay.specs.declared.fault.ReplayFault.{ReplayFault}
 use Rattle.journal_replay.specs.declared.fault.ReplayFault.TheVariants as faults
 use Rattle.room_turns.specs.Runs.{Passage}

@@ -4,7 +4,7 @@ use Rattle.std.specs.Prelude.{◌≡◌, List}
 use Rattle.room_disk.specs.Disk.{DiskView, EachSince, Image, Images}
 use Rattle.room_catalog.specs.Held.{CatalogueLists, catalogue_of}
 use Rattle.room_effects.specs.View.{RoomView}
-use Rattle.journal_replay.specs.Files.{ReplaysTo}
+use Rattle.journal_files.specs.Files.{ReplaysTo}
 use Rattle.room_turns.specs.Runs.{Passage, left_open, trail_of}
 use Rattle.room_turns.specs.Served.{ReopensInRun, ReopensNow, made_by}
 

@@ -6,7 +6,7 @@ use Rattle.room_disk.specs.Disk.{DiskView, Quiet}
 use Rattle.cat_journal.specs.Journal.{IsJournalFile}
 use Rattle.room_catalog.specs.Invariant.{IsHeld}
 use Rattle.room_effects.specs.View.{IsJournalOf, RoomView, opened_room}
-use Rattle.journal_replay.specs.Files.{IsDamaged, ReplaysTo}
+use Rattle.journal_files.specs.Files.{IsDamaged, ReplaysTo}
 use Rattle.room_turns.specs.Runs.{Passage, Reopening}
 use Rattle.room_turns.specs.Served.{Leads, Served}
 use Rattle.desk.specs.Exchanges.{AreAsked, AreTimed, Exchange, answer_text, passages_of}

@@ -1,17 +1,13 @@
 -- The catalogue that a snapshot gives.
 use Rattle.std.proofs.Common.{◌≡◌, ℕ, true, List, Err, ap, ◌∙◌, subst}
 use Rattle.catalog_change.specs.Catalogues.{Catalogue}
-use Rattle.catalog_text.specs.declared.fault.DecodeFault.TheVariants as faults
-use Rattle.snapshot_text.specs.Decoding.{StopsAtPlace}
-use Rattle.snapshot_reading.specs.Spelled.{IsText}
-use Rattle.snapshot_reading.proofs.SnapshotLaws.{one-catalogue, read-back}
+use Rattle.catalog_spelling.specs.declared.fault.DecodeFault.TheVariants as faults
+use Rattle.catalog_spelling.specs.SnapshotDecoding.{StopsAtPlace}
+use Rattle.snapshot_laws.proofs.SnapshotLaws.{read-back}
 use Rattle.room_catalog.specs.Held.{HeldCatalogue, catalogue_of}
-use Rattle.room_catalog.specs.Reading.{IsReadTo}
-use Rattle.journal_replay.specs.Files.{GivesNone}
-
--- bytes are the text of one catalogue
-pub one_text : (bytes : List ℕ) (one other : Catalogue) → IsText true bytes one → IsText true bytes other → one ≡ other
-one_text bytes one other text also = one-catalogue true bytes one other text also
+use Rattle.journal_replay.specs.Reading.{IsReadTo}
+use Rattle.journal_files.specs.Files.{GivesNone}
+use Rattle.journal_files.proofs.Single.{one_text}
 
 pub none_of_bad : (number : ℕ) (snapshot : List ℕ) (place : ℕ) → StopsAtPlace true snapshot place → GivesNone number snapshot
 none_of_bad number snapshot place stops = λ first is.

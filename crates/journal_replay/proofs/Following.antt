@@ -5,21 +5,16 @@ use Rattle.room_base.specs.declared.numbers.Moment.{Moment}
 use Rattle.cat_journal.specs.Entries.{payloads_of}
 use Rattle.cat_journal.specs.declared.entry_list.Entry.{Entry}
 use Rattle.catalog_change.specs.declared.change.Change.{Change}
-use Rattle.catalog_text.specs.Changes.{Stamped, change_at}
-use Rattle.catalog_text.specs.Decoding.{ChangeText, HasBad}
-use Rattle.catalog_text.proofs.ChangeTexts.{not-bad, one-change}
+use Rattle.catalog_spelling.specs.Changes.{Stamped, change_at}
+use Rattle.catalog_spelling.specs.Decoding.{ChangeText, HasBad}
+use Rattle.catalog_spelling.proofs.ChangeTexts.{not-bad}
 use Rattle.room_catalog.specs.Changing.{lists_after}
 use Rattle.room_catalog.specs.Held.{CatalogueLists}
 use Rattle.journal_replay.specs.Answers.{StraysAmong, TellsChange}
 use Rattle.room_effects.specs.Replaying.{Follows, MayFollow, Replays, lists_behind}
 use Rattle.room_effects.proofs.Standing.{replays_more}
-use Rattle.journal_replay.specs.Files.{IsStray}
-
--- bytes are the text of one change
-pub one_change : (payload : List ℕ) (moment other : ℕ) (change changed : Change) → ChangeText payload moment change → ChangeText payload other changed → (moment ≡ other) × (change ≡ changed)
-one_change payload moment other change changed text also =
-    let same = one-change moment other change changed [] [] text.is also.is (ap (λ (t : List ℕ). t ++ []) (sym text.text ∙ also.text)) in
-    (same.0, same.1)
+use Rattle.journal_files.specs.Files.{IsStray}
+use Rattle.journal_files.proofs.Single.{one_change}
 
 -- ---- entries that tell no change
 
@@ -34,18 +29,9 @@ stray_unfit form payload lists moment change text unfit = λ one follows.
 
 -- ---- entries that tell one
 
-abbrev stamp : ℕ → Change → Stamped
-stamp moment change = record { moment = moment; change = change }
-
--- an entry tells one change at one moment
-pub one_stamped : (payload : List ℕ) (one other : Stamped) → ChangeText payload one.moment one.change → ChangeText payload other.moment other.change → one ≡ other
-one_stamped payload one other text also =
-    let same = one_change payload one.moment other.moment one.change other.change text also in
-    ap (λ (n : ℕ). stamp n one.change) same.0 ∙ ap (stamp other.moment) same.1
-
 pub tells : (form : ℕ) (payload : List ℕ) (old new : CatalogueLists) (m : Moment) (change : Change) → ChangeText payload m.0 change → MayFollow form old change → new ≡ lists_after m change old
     → (one : Stamped) × Follows form payload old one × (new ≡ lists_behind one old)
-tells form payload old new m change text may made = (stamp m.0 change, record { text = text; may = may }, made)
+tells form payload old new m change text may made = (record { moment = m.0; change = change }, record { text = text; may = may }, made)
 
 -- what was answered of an entry with these bytes
 pub told_stray : (form : ℕ) (bytes payload : List ℕ) (old new : CatalogueLists) (told : Bool) → bytes ≡ payload → told ≡ false → TellsChange form bytes old new (Ok told)

@@ -3,6 +3,3 @@ pub mod Numbering
 pub mod Placing
 pub mod FirstCatalogue
 pub mod Answering
-pub mod Alike
-pub mod Once
-pub mod Snapshots

@@ -5,7 +5,7 @@ use Rattle.room_base.specs.declared.numbers.Moment.{Moment}
 use Rattle.cat_journal.specs.Contents.{last_of, number_after}
 use Rattle.catalog_change.specs.declared.change.Change.{Change}
 use Rattle.catalog_change.specs.declared.change.Change.TheVariants.{IndexPart}
-use Rattle.catalog_text.specs.Changes.{Stamped, change_byte}
+use Rattle.catalog_spelling.specs.Changes.{Stamped, change_byte}
 use Rattle.room_catalog.specs.Changing.{lists_after}
 use Rattle.room_catalog.specs.Held.{CatalogueLists, no_parts}
 use Rattle.room_effects.proofs.Entering.{kind_is}

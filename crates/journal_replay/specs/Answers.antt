@@ -9,12 +9,12 @@ use Rattle.cat_journal.specs.Journal.{IsJournalFile}
 use Rattle.cat_journal.specs.declared.entry_list.Entry.{Entry}
 use Rattle.cat_journal.specs.declared.opening.OpenFault.{OpenFault}
 use Rattle.cat_journal.specs.declared.opening.OpenFault.TheVariants as opens
-use Rattle.catalog_text.specs.Changes.{Stamped}
+use Rattle.catalog_spelling.specs.Changes.{Stamped}
 use Rattle.room_catalog.specs.Held.{CatalogueLists, HeldCatalogue}
 use Rattle.room_catalog.specs.Invariant.{IsHeld}
 use Rattle.room_effects.specs.View.{IsJournalOf}
 use Rattle.room_effects.specs.Replaying.{Follows, Replays, lists_behind}
-use Rattle.journal_replay.specs.Files.{GivesNone, IsDamaged, IsFirst, IsStray, ReplaysTo}
+use Rattle.journal_files.specs.Files.{GivesNone, IsDamaged, IsFirst, IsStray, ReplaysTo}
 use Rattle.journal_replay.specs.declared.fault.ReplayFault.{ReplayFault}
 use Rattle.journal_replay.specs.declared.fault.ReplayFault.TheVariants as faults
 use Rattle.journal_replay.specs.declared.replaying.Replayed.{Replayed}

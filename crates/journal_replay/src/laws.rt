@@ -9,7 +9,7 @@ ghost use Rattle.room_effects.specs.Effects.{Deed, after_all};
 ghost use Rattle.room_effects.specs.Running.{AllCan, AreFounded, AreWritten, Crashed, Known, Led};
 ghost use Rattle.room_effects.specs.Running.{Performed, Ready, trail};
 ghost use Rattle.room_effects.specs.Reopening.{AreAlike, ReopensAfterSome};
-ghost use Rattle.journal_replay.specs.Files.{IsDamaged, IsSnapshot, ReplaysTo};
+ghost use Rattle.journal_files.specs.Files.{IsDamaged, IsSnapshot, ReplaysTo};
 
 use room_disk::Store;
 

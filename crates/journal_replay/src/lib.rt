@@ -14,3 +14,4 @@ pub use laws::{
     files_replay_as_one, files_replay_as_the_catalogue, images_replay_as_the_catalogue,
 };
 pub use replaying::{Replayed, replay};
+pub use snapshot::read_snapshot;

@@ -14,7 +14,7 @@ use Rattle.room_effects.specs.Effects.{Effect, Enter, EnterPart, TurnOver, Commi
 use Rattle.room_effects.specs.Effects.{Deed, Done, Broken, after_all, after_broken, after_done, effect_of}
 use Rattle.room_effects.specs.Needs.{CanDo}
 use Rattle.room_effects.specs.Running.{AllCan, AreLooks, Does, RanTo}
-use Rattle.room_plan.specs.Plans.{Plan, Refuse, Do, Follows, IsTurn}
+use Rattle.room_effects.specs.Plans.{Plan, Refuse, Do, Follows, IsTurn}
 use Rattle.room_between.specs.Middle.{HasRecord}
 use Rattle.room_between.specs.Quiet.{AreQuiet, IsQuiet, IsQuietPlan}
 use Rattle.room_between.proofs.Records.{IsElsewhere, each_of_all, elsewhere}

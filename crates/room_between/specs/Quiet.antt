@@ -20,7 +20,7 @@ use Rattle.room_effects.specs.Effects.{
   Close,
   effect_of,
 }
-use Rattle.room_plan.specs.Plans.{Plan, Refuse, Do}
+use Rattle.room_effects.specs.Plans.{Plan, Refuse, Do}
 
 -- A change that no open session is about. A change that fits can't purge or copy the set of one, as
 -- its record isn't complete, and the times of one may be amended.

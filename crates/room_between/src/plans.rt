@@ -7,7 +7,7 @@ ghost use Rattle.room_command.specs.declared.reply.Reply.{Reply};
 ghost use Rattle.room_effects.specs.View.{RoomView, IsBetweenCommands, IsRoom};
 ghost use Rattle.room_effects.specs.Effects.{Deed, Effect, after_all};
 ghost use Rattle.room_effects.specs.Running.{AllCan, Does};
-ghost use Rattle.room_plan.specs.Plans.{Plan, Follows};
+ghost use Rattle.room_effects.specs.Plans.{Plan, Follows};
 ghost use Rattle.room_between.specs.Quiet.{AreQuiet, IsQuiet, IsQuietPlan};
 
 use room_disk::Store;

@@ -6,4 +6,3 @@ pub mod Changing
 pub mod Views
 pub mod Invariant
 pub mod Alike
-pub mod Reading

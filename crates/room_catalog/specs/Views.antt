@@ -1,6 +1,7 @@
 -- The catalogue in memory as contracts see it.
 use Rattle.room_catalog.specs.declared.kept.Kept.{Kept}
-use Rattle.room_catalog.specs.Held.{HeldCatalogue}
+use Rattle.room_catalog.specs.declared.catalogue_parts.CatalogueParts.{CatalogueParts}
+use Rattle.room_catalog.specs.Held.{CatalogueLists, HeldCatalogue, no_parts}
 
 abbrev pub held_of : Kept → HeldCatalogue
 held_of kept = record {
@@ -25,4 +26,19 @@ held_of kept = record {
     entries = kept.parts.capacity;
     copies = kept.copies;
   };
+}
+
+-- what a catalogue of these parts holds
+abbrev pub lists_of_parts : CatalogueParts → CatalogueLists
+lists_of_parts parts = record {
+  number = parts.number;
+  last_moment = parts.last_moment.0;
+  next_ssid = parts.next_ssid.0;
+  next_volid = parts.next_volid.0;
+  resources = parts.resources.lists;
+  slots = parts.slots.items;
+  volumes = parts.db.volumes;
+  records = parts.db.records;
+  sets = parts.index.sets;
+  parts = no_parts;
 }

@@ -4,6 +4,7 @@
 #![tactic(auto)]
 
 mod catalogue;
+mod catalogue_parts;
 mod copy_room;
 mod fitting;
 mod kept;
@@ -12,11 +13,11 @@ mod parts;
 mod preparing;
 mod saves;
 mod slots;
-mod snapshots;
 mod volumes;
 
 pub use catalog_change::{Change, Client, FilledSlot, Resource, ResourceKind};
 pub use catalogue::Catalogue;
+pub use catalogue_parts::CatalogueParts;
 pub use laws::{catalogues_are_what_is_found, prepared_changes_stay_ready};
 pub use room_rules::{
     Action, Group, Member, Override, Period, Planned, Policy, Pool, Schedule, Unit,

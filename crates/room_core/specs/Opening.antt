@@ -5,7 +5,7 @@ use Rattle.room_disk.specs.Disk.{DiskView, Image}
 use Rattle.cat_journal.specs.Images.{IsJournal}
 use Rattle.room_catalog.specs.Invariant.{IsHeld}
 use Rattle.room_effects.specs.View.{IsJournalOf, RoomView, opened_room}
-use Rattle.journal_replay.specs.Files.{IsDamaged, ReplaysTo}
+use Rattle.journal_files.specs.Files.{IsDamaged, ReplaysTo}
 use Rattle.journal_replay.specs.declared.fault.ReplayFault.{ReplayFault}
 use Rattle.journal_replay.specs.declared.fault.ReplayFault.TheVariants as faults
 use Rattle.room_turns.specs.Runs.{Reopening}

@@ -3,7 +3,7 @@
 ghost use Rattle.std.specs.Prelude.{◌≡◌, ◌≤◌, IsTrue};
 ghost use Rattle.room_base.specs.Numbers.{max_moment};
 ghost use Rattle.room_effects.specs.View.{IsBetweenCommands};
-ghost use Rattle.room_plan.specs.Plans.{Follows, Plan};
+ghost use Rattle.room_effects.specs.Plans.{Follows, Plan};
 ghost use Rattle.room_media.specs.Labelling.{IsLabelPlan};
 ghost use Rattle.room_media.specs.Mounting.{IsMountPlan, unmount_plan};
 ghost use Rattle.room_media.specs.Slots.{eject_plan, load_plan};

@@ -2,7 +2,7 @@
 
 ghost use Rattle.std.specs.Prelude.{◌≡◌, ◌≤◌};
 ghost use Rattle.room_base.specs.Numbers.{max_moment};
-ghost use Rattle.room_plan.specs.Entering.{moment_of};
+ghost use Rattle.room_effects.specs.Entering.{moment_of};
 
 use room_base::{MAX_MOMENT, Moment};
 use room_catalog::Catalogue;

@@ -3,7 +3,7 @@
 ghost use Rattle.std.specs.Prelude.{◌≡◌, ◌≤◌, IsTrue};
 ghost use Rattle.room_base.specs.Numbers.{max_moment};
 ghost use Rattle.room_effects.specs.View.{IsBetweenCommands};
-ghost use Rattle.room_plan.specs.Plans.{Follows, Plan};
+ghost use Rattle.room_effects.specs.Plans.{Follows, Plan};
 ghost use Rattle.room_resources.specs.Defining.{IsDefinePlan};
 ghost use Rattle.room_resources.specs.Dropping.{drop_plan};
 

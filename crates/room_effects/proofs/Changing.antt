@@ -3,7 +3,7 @@ use Rattle.std.proofs.Common.{◌≡◌, ℕ, suc, zero, ◌+◌, List, [], ◌�
 use Rattle.room_base.specs.declared.numbers.Moment.{Moment}
 use Rattle.catalog_change.specs.declared.change.Change.{Change}
 use Rattle.catalog_change.specs.declared.change.Change.TheVariants.{Defined, Dropped, Loaded, Ejected, Labelled, Begun, Finished, Aborted, Amended, Deleted, Purged, CopyBegun, CopyDone, IndexPart, FinishedParts}
-use Rattle.catalog_text.specs.Changes.{Stamped}
+use Rattle.catalog_spelling.specs.Changes.{Stamped}
 use Rattle.room_catalog.specs.Changing.{changed, catalogue_after, with_index, without_parts}
 use Rattle.room_catalog.specs.Held.{CatalogueLists, Parts, no_parts}
 use Rattle.room_effects.specs.View.{RoomView}

@@ -16,8 +16,8 @@ use Rattle.cat_journal.proofs.Standing.{current_holds, file_is, front_of_held, k
 use Rattle.cat_journal.proofs.Turning.{knows_new, turned, turned_whole}
 use Rattle.catalog_change.specs.declared.change.Change.{Change}
 use Rattle.catalog_change.specs.declared.change.Change.TheVariants.{IndexPart, FinishedParts}
-use Rattle.catalog_text.specs.Changes.{Stamped, change_text}
-use Rattle.catalog_text.specs.Decoding.{IsStamped}
+use Rattle.catalog_spelling.specs.Changes.{Stamped, change_text}
+use Rattle.catalog_spelling.specs.Decoding.{IsStamped}
 use Rattle.room_catalog.specs.Fits.{AreParts, FitsParts}
 use Rattle.room_catalog.specs.Held.{CatalogueLists, Parts, no_parts}
 use Rattle.room_effects.specs.View.{RoomView}

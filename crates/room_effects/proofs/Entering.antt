@@ -14,9 +14,9 @@ use Rattle.cat_journal.specs.Contents.{IsFront}
 use Rattle.cat_journal.specs.Journal.{JournalView, AddsEntry, IsLast, IsPart, MayAddEntry, file_of, form_of, new_text, next_file, next_generation, next_head, turned_over}
 use Rattle.catalog_change.specs.declared.change.Change.{Change}
 use Rattle.catalog_change.specs.declared.change.Change.TheVariants.{Defined, Dropped, Loaded, Ejected, Labelled, Begun, Finished, Aborted, Amended, Deleted, Purged, CopyBegun, CopyDone, IndexPart, FinishedParts}
-use Rattle.catalog_text.specs.Fields.{number_bytes}
-use Rattle.catalog_text.specs.Decoding.{IsStamped}
-use Rattle.catalog_text.specs.Changes.{change_byte, change_text}
+use Rattle.catalog_spelling.specs.Fields.{number_bytes}
+use Rattle.catalog_spelling.specs.Decoding.{IsStamped}
+use Rattle.catalog_spelling.specs.Changes.{change_byte, change_text}
 use Rattle.room_catalog.specs.Held.{no_parts}
 use Rattle.slot_changer.specs.Drives.{DriveView, in_drive, no_volumes}
 use Rattle.room_effects.specs.View.{RoomView, IsRoom}

@@ -8,7 +8,7 @@ use Rattle.media_db.specs.declared.copies.Section.{Section}
 use Rattle.catalog_change.specs.Changes.{AreEntries, IsChange}
 use Rattle.catalog_change.specs.declared.change.Change.{Change}
 use Rattle.catalog_change.specs.declared.change.Change.TheVariants.{Defined, Dropped, Loaded, Ejected, Labelled, Begun, Finished, Aborted, Amended, Deleted, Purged, CopyBegun, CopyDone, IndexPart, FinishedParts}
-use Rattle.catalog_text.specs.Decoding.{IsStamped}
+use Rattle.catalog_spelling.specs.Decoding.{IsStamped}
 use Rattle.room_catalog.specs.Changing.{HasWholeDigest, changed, catalogue_after, without_parts}
 use Rattle.room_catalog.specs.Fits.{Fits, FitsParts}
 use Rattle.room_catalog.specs.Held.{CatalogueLists, CatalogueRoom, catalogue_of}

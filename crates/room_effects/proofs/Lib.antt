@@ -20,3 +20,5 @@ pub mod ReopeningDisks
 pub mod Closing
 pub mod Holding
 pub mod Opening
+pub mod Following
+pub mod Checking

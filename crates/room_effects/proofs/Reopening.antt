@@ -6,7 +6,7 @@ use Rattle.std.proofs.lemmas.Bool.{cond_both}
 use Rattle.std.proofs.lemmas.List.{length-append}
 use Rattle.room_disk.specs.Disk.{Image}
 use Rattle.cat_journal.specs.Journal.{KnowsFiles}
-use Rattle.catalog_text.specs.Changes.{Stamped}
+use Rattle.catalog_spelling.specs.Changes.{Stamped}
 use Rattle.room_catalog.specs.Held.{CatalogueLists}
 use Rattle.slot_changer.specs.Committing.{cart_file_of}
 use Rattle.slot_changer.specs.Drives.{DriveView}

@@ -8,9 +8,9 @@ use Rattle.cat_journal.specs.Journal.{JournalView}
 use Rattle.cat_journal.specs.Meaning.{Damaged, Meaning, Stands, Unopened}
 use Rattle.cat_journal.proofs.OneMeaning.{one_meaning}
 use Rattle.catalog_change.specs.declared.change.Change.{Change}
-use Rattle.catalog_text.specs.Changes.{Stamped}
-use Rattle.catalog_text.specs.Decoding.{ChangeText}
-use Rattle.catalog_text.proofs.ChangeTexts.{one-change}
+use Rattle.catalog_spelling.specs.Changes.{Stamped}
+use Rattle.catalog_spelling.specs.Decoding.{ChangeText}
+use Rattle.catalog_spelling.proofs.ChangeTexts.{one-change}
 use Rattle.room_catalog.specs.Held.{CatalogueLists, catalogue_of}
 use Rattle.room_effects.specs.View.{RoomView, IsRoom}
 use Rattle.room_effects.specs.Effects.{Deed}

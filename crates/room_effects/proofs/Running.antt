@@ -4,7 +4,7 @@ use Rattle.std.specs.Prelude.{Bool, true, false, Option, Some, None}
 use Rattle.room_disk.specs.Disk.{Image}
 use Rattle.cat_journal.specs.Journal.{JournalView}
 use Rattle.room_catalog.specs.Held.{CatalogueLists}
-use Rattle.catalog_text.specs.Changes.{Stamped}
+use Rattle.catalog_spelling.specs.Changes.{Stamped}
 use Rattle.slot_changer.specs.Drives.{DriveView}
 use Rattle.room_effects.specs.View.{RoomView, held_in}
 use Rattle.room_effects.specs.Effects.{Effect, Enter, EnterPart, TurnOver, Commit, Look, WriteLabel}

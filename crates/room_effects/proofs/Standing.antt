@@ -8,7 +8,7 @@ use Rattle.cat_journal.specs.Meaning.{Meaning, Means, Stands}
 use Rattle.cat_journal.specs.declared.current.CurrentFile.{CurrentFile}
 use Rattle.cat_journal.proofs.OneMeaning.{one_meaning}
 use Rattle.catalog_change.specs.Catalogues.{max_number}
-use Rattle.catalog_text.specs.Changes.{Stamped}
+use Rattle.catalog_spelling.specs.Changes.{Stamped}
 use Rattle.room_catalog.specs.Held.{CatalogueLists, no_parts}
 use Rattle.room_effects.specs.View.{RoomView, AreDrives, IsRoom}
 use Rattle.room_effects.specs.Reopening.{GiveCatalogue, MeansCatalogue, Reopens}

@@ -15,7 +15,7 @@ use Rattle.media_db.specs.declared.copies.Section.{Section}
 use Rattle.cat_journal.specs.Journal.{JournalView, behind_entry, next_generation, turned_over}
 use Rattle.catalog_change.specs.declared.change.Change.{Change}
 use Rattle.catalog_change.specs.declared.change.Change.TheVariants.{IndexPart}
-use Rattle.catalog_text.specs.Changes.{change_text}
+use Rattle.catalog_spelling.specs.Changes.{change_text}
 use Rattle.room_catalog.specs.Changing.{catalogue_after, with_part_waiting}
 use Rattle.room_catalog.specs.Held.{no_parts}
 use Rattle.slot_changer.specs.Drives.{

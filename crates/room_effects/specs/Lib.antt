@@ -7,3 +7,6 @@ pub mod Faults
 pub mod Running
 pub mod Replaying
 pub mod Reopening
+pub mod Plans
+pub mod Entering
+pub mod Checked

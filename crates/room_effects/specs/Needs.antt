@@ -16,7 +16,7 @@ use Rattle.cat_journal.specs.Journal.{form_of}
 use Rattle.catalog_change.specs.Changes.{IsChange}
 use Rattle.catalog_change.specs.declared.change.Change.{Change}
 use Rattle.catalog_change.specs.declared.change.Change.TheVariants.{IndexPart}
-use Rattle.snapshot_reading.specs.Spelled.{IsText}
+use Rattle.catalog_spelling.specs.SpelledSnapshots.{IsText}
 use Rattle.room_catalog.specs.Fits.{Fits, FitsParts}
 use Rattle.room_catalog.specs.Held.{catalogue_of}
 use Rattle.slot_changer.specs.Drives.{DriveView, IsDrive, MayTakeOut}

@@ -4,7 +4,7 @@ use Rattle.std.specs.Prelude.{◌≡◌, ℕ, ◌≤◌, List, [], ◌∷◌, le
 use Rattle.room_disk.specs.Disk.{Image}
 use Rattle.cat_journal.specs.Contents.{Contents}
 use Rattle.cat_journal.specs.Meaning.{Meaning, Means, Unopened, Damaged, Stands}
-use Rattle.catalog_text.specs.Changes.{Stamped}
+use Rattle.catalog_spelling.specs.Changes.{Stamped}
 use Rattle.room_catalog.specs.Held.{CatalogueLists, catalogue_of, no_parts, opening_catalogue}
 use Rattle.room_effects.specs.View.{RoomView}
 use Rattle.room_effects.specs.Effects.{Effect, TurnOver, Deed, after, effect_of}

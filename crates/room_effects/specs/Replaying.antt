@@ -2,8 +2,8 @@
 use Rattle.std.specs.Prelude.{◌≡◌, ℕ, List, [], ◌∷◌}
 use Rattle.catalog_change.specs.declared.change.Change.{Change}
 use Rattle.catalog_change.specs.declared.change.Change.TheVariants.{FinishedParts, IndexPart}
-use Rattle.catalog_text.specs.Changes.{Stamped}
-use Rattle.catalog_text.specs.Decoding.{ChangeText}
+use Rattle.catalog_spelling.specs.Changes.{Stamped}
+use Rattle.catalog_spelling.specs.Decoding.{ChangeText}
 use Rattle.room_catalog.specs.Changing.{lists_after}
 use Rattle.room_catalog.specs.Fits.{Fits, FitsParts}
 use Rattle.room_catalog.specs.Held.{CatalogueLists, catalogue_of}

@@ -12,8 +12,8 @@ use Rattle.volume_store.specs.Writes.{IsCart, cart_file}
 use Rattle.cat_journal.specs.Images.{IsJournal}
 use Rattle.catalog_change.specs.declared.change.Change.{Change}
 use Rattle.catalog_change.specs.declared.change.Change.TheVariants.{IndexPart}
-use Rattle.catalog_text.specs.Changes.{Stamped}
-use Rattle.catalog_text.specs.Decoding.{IsStamped}
+use Rattle.catalog_spelling.specs.Changes.{Stamped}
+use Rattle.catalog_spelling.specs.Decoding.{IsStamped}
 use Rattle.room_catalog.specs.Held.{CatalogueLists}
 use Rattle.slot_changer.specs.Committing.{cart_file_of}
 use Rattle.slot_changer.specs.Drives.{DriveView, IsDrive}

@@ -23,7 +23,7 @@ ghost use Rattle.cat_journal.specs.Journal.{JournalView, AddsEntry, MayAddEntry,
 ghost use Rattle.cat_journal.specs.Journal.{next_file, next_head};
 ghost use Rattle.catalog_change.specs.declared.change.Change.{Change};
 ghost use Rattle.catalog_change.specs.declared.change.Change.TheVariants.{IndexPart};
-ghost use Rattle.catalog_text.specs.Decoding.{IsStamped};
+ghost use Rattle.catalog_spelling.specs.Decoding.{IsStamped};
 ghost use Rattle.slot_changer.specs.Committing.{AddsBuffer, MayAddBuffer, cart_file_of};
 ghost use Rattle.room_effects.specs.View.{RoomView, IsRoom, held_in};
 ghost use Rattle.room_effects.specs.Effects.{Effect, after_broken, after_done, entry_bytes};

@@ -1,6 +1,6 @@
 //! The state of a room, the effects that a command is made of, what each needs, and what it makes
-//! of the state and of the files: definitions, and laws of them. docs/definitions.md reads the
-//! definitions aloud.
+//! of the state and of the files; and what a command is to do, as a plan: a refusal, or effects and an
+//! answer. Definitions, and laws of them. docs/definitions.md reads the definitions aloud.
 #![tactic(auto)]
 
 mod crashes;

@@ -12,7 +12,7 @@ ghost use Rattle.cat_journal.specs.Images.{IsJournal};
 ghost use Rattle.cat_journal.specs.Journal.{JournalView, IsKnown};
 ghost use Rattle.volume_store.specs.declared.commit.Volume.{Volume};
 ghost use Rattle.catalog_change.specs.declared.change.Change.{Change};
-ghost use Rattle.catalog_text.specs.Decoding.{IsStamped};
+ghost use Rattle.catalog_spelling.specs.Decoding.{IsStamped};
 ghost use Rattle.room_catalog.specs.Fits.{Fits, FitsParts};
 ghost use Rattle.room_catalog.specs.Held.{CatalogueLists, CatalogueRoom, catalogue_of, no_parts};
 ghost use Rattle.room_catalog.specs.Held.{opening_catalogue};

@@ -5,11 +5,11 @@ use Rattle.room_command.specs.declared.reply.Reply.{Reply}
 use Rattle.room_disk.specs.Disk.{DiskView}
 use Rattle.room_effects.specs.View.{RoomView}
 use Rattle.room_effects.specs.Effects.{Effect, TurnOver}
-use Rattle.snapshot_text.specs.Snapshots.{snapshot_text}
+use Rattle.catalog_spelling.specs.Snapshots.{snapshot_text}
 use Rattle.room_catalog.specs.Held.{catalogue_of}
 use Rattle.std.specs.Option.{is_some}
-use Rattle.room_plan.specs.Entering.{ceiling, entering, is_at_ceiling, with_first_file}
-use Rattle.room_plan.specs.Plans.{Plan, Do, Follows, refused_behind}
+use Rattle.room_effects.specs.Entering.{ceiling, entering, is_at_ceiling, with_first_file}
+use Rattle.room_effects.specs.Plans.{Plan, Do, Follows, refused_behind}
 
 module _ (looks effects : List Effect) (reply answer : Reply) (room new : RoomView) (before now : DiskView) where
   -- the plan of one of two cases

@@ -7,7 +7,7 @@ use Rattle.room_base.specs.declared.refusal.Refusal.{Refusal}
 use Rattle.room_disk.specs.Disk.{DiskView}
 use Rattle.cat_journal.specs.Journal.{turned_over}
 use Rattle.catalog_change.specs.declared.change.Change.{Change}
-use Rattle.snapshot_text.specs.Snapshots.{snapshot_text}
+use Rattle.catalog_spelling.specs.Snapshots.{snapshot_text}
 use Rattle.room_catalog.specs.Held.{Parts, catalogue_of, no_parts}
 use Rattle.room_effects.specs.View.{RoomView, IsRoom}
 use Rattle.room_effects.specs.Effects.{Effect, Enter, TurnOver, after_done, entry_bytes, turned}
@@ -17,7 +17,7 @@ use Rattle.room_effects.specs.Running.{Does}
 use Rattle.room_effects.proofs.Does.{does_then}
 use Rattle.room_state.specs.Memory.{TakesMemory}
 use Rattle.room_state.proofs.Prepared.{ready_kept}
-use Rattle.room_plan.specs.Entering.{with_first_file}
+use Rattle.room_effects.specs.Entering.{with_first_file}
 
 -- the first file leaves all but the journal as it is: no part of an index waits where none is open
 pub turned_first : (size : ℕ) (room : RoomView) → IsRoom room → room.journal.current ≡ None

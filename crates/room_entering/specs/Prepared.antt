@@ -2,7 +2,7 @@
 use Rattle.std.specs.Prelude.{◌≡◌, ℕ, ◌<◌, ◌^◌, true, List, length, Option, Some, None, IsSome}
 use Rattle.room_base.specs.declared.numbers.Moment.{Moment}
 use Rattle.catalog_change.specs.declared.change.Change.{Change}
-use Rattle.snapshot_reading.specs.Spelled.{IsText}
+use Rattle.catalog_spelling.specs.SpelledSnapshots.{IsText}
 use Rattle.room_catalog.specs.Held.{catalogue_of}
 use Rattle.room_effects.specs.View.{RoomView}
 use Rattle.room_effects.specs.Effects.{Enter, entry_bytes}

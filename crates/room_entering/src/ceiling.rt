@@ -1,7 +1,7 @@
 //! The greatest numbers at which one more change is entered.
 
 ghost use Rattle.std.specs.Prelude.{◌≡◌};
-ghost use Rattle.room_plan.specs.Entering.{is_at_ceiling};
+ghost use Rattle.room_effects.specs.Entering.{is_at_ceiling};
 
 use room_catalog::Catalogue;
 

@@ -9,8 +9,8 @@ ghost use Rattle.room_command.specs.declared.reply.Reply.TheVariants as replies;
 ghost use Rattle.room_effects.specs.Effects.{Enter};
 ghost use Rattle.room_effects.specs.Needs.{IsFitting, IsWholeChange};
 ghost use Rattle.room_effects.specs.Running.{Does};
-ghost use Rattle.room_plan.specs.Entering.{entering, is_at_ceiling, with_first_file};
-ghost use Rattle.room_plan.specs.Plans.{Do, Follows};
+ghost use Rattle.room_effects.specs.Entering.{entering, is_at_ceiling, with_first_file};
+ghost use Rattle.room_effects.specs.Plans.{Do, Follows};
 ghost use Rattle.room_entering.specs.Prepared.{IsEnteredFrom, IsPrepared};
 
 use crate::ceiling::{CEILING, is_at_ceiling};
@@ -31,7 +31,7 @@ pub fn prepare_entry(room: &mut RoomState, change: &Change) -> Result<Option<Ite
     if room.has_journal_file() {
         return Ok(None);
     }
-    let snapshot = room.catalogue().snapshot(room.allocator(), true)?;
+    let snapshot = catalog_snapshot::snapshot(room.catalogue(), room.allocator(), true)?;
     Ok(Some(Items::of(snapshot)))
 }
 

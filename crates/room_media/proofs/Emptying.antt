@@ -15,8 +15,8 @@ use Rattle.room_effects.specs.Running.{Does}
 use Rattle.room_effects.proofs.Does.{does_then}
 use Rattle.room_effects.proofs.Memory.{after_one}
 use Rattle.room_effects.proofs.Sending.{does_take_out}
-use Rattle.room_plan.specs.Plans.{Do, Follows}
-use Rattle.room_plan.proofs.Following.{follows_done}
+use Rattle.room_effects.specs.Plans.{Do, Follows}
+use Rattle.room_effects.proofs.Following.{follows_done}
 use Rattle.room_media.specs.Mounting.{commit_some, emptying}
 
 -- ---- a buffer without blocks

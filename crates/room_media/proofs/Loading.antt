@@ -9,7 +9,7 @@ use Rattle.room_base.specs.declared.refusal.Refusal.{Refusal}
 use Rattle.catalog_change.specs.declared.slot.FilledSlot.{FilledSlot}
 use Rattle.room_catalog.specs.Fits.{IsLoadable, find_slot}
 use Rattle.room_effects.specs.View.{RoomView}
-use Rattle.room_plan.specs.Checked.{unless}
+use Rattle.room_effects.specs.Checked.{unless}
 use Rattle.room_media.specs.Slots.{cart_in, in_no_slot, is_cart, is_slot, load_checks, slot_with}
 
 -- a check that went through, and the checks behind it

@@ -13,7 +13,7 @@ use Rattle.slot_changer.specs.Drives.{IsDrive}
 use Rattle.room_effects.specs.View.{RoomView, held_in}
 use Rattle.room_effects.specs.Effects.{PutIn}
 use Rattle.room_effects.specs.Needs.{CanDo, IsInNoDrive}
-use Rattle.room_plan.specs.Checked.{behind_check}
+use Rattle.room_effects.specs.Checked.{behind_check}
 use Rattle.room_media.specs.Mounting.{IsOn, mounted_own, own_label}
 
 -- the volume that is the one on record is the one that mounting gave

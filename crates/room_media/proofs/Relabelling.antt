@@ -30,9 +30,9 @@ use Rattle.room_effects.specs.Running.{Does}
 use Rattle.room_effects.proofs.Does.{does_append, does_stop}
 use Rattle.room_entering.specs.Prepared.{IsEnteredFrom}
 use Rattle.room_entering.proofs.Ceilings.{first_file_append, follows_below_ceiling}
-use Rattle.room_plan.specs.Entering.{is_at_ceiling, with_first_file}
-use Rattle.room_plan.specs.Plans.{Follows}
-use Rattle.room_plan.proofs.Following.{follows_done, follows_fault}
+use Rattle.room_effects.specs.Entering.{is_at_ceiling, with_first_file}
+use Rattle.room_effects.specs.Plans.{Follows}
+use Rattle.room_effects.proofs.Following.{follows_done, follows_fault}
 use Rattle.room_media.specs.declared.labelling.NewVolume.{NewVolume}
 use Rattle.room_media.specs.Labelling.{is_capacity, label_of, new_volume_plan, next_volid}
 use Rattle.room_media.specs.NewVolumes.{IsNewVolume}

@@ -6,7 +6,7 @@ use Rattle.room_command.specs.declared.answer.Answer.TheVariants.{Slots}
 use Rattle.room_command.specs.declared.answer.SlotLine.{SlotLine}
 use Rattle.room_command.specs.declared.reply.Reply.TheVariants.{Done}
 use Rattle.room_effects.specs.View.{RoomView}
-use Rattle.room_plan.specs.Plans.{Plan, Do}
+use Rattle.room_effects.specs.Plans.{Plan, Do}
 use Rattle.room_media.specs.Mounting.{volid_or_none}
 use Rattle.room_media.specs.Slots.{drive_with}
 

@@ -24,9 +24,9 @@ use Rattle.room_command.specs.declared.reply.Reply.TheVariants.{Done}
 use Rattle.room_effects.specs.View.{RoomView}
 use Rattle.room_effects.specs.Effects.{Enter, Look, SeenLabel, WriteLabel}
 use Rattle.room_checks.specs.OpenSets.{open_sets}
-use Rattle.room_plan.specs.Checked.{behind, behind_check, checked, unless}
-use Rattle.room_plan.specs.Entering.{entering}
-use Rattle.room_plan.specs.Plans.{Plan}
+use Rattle.room_effects.specs.Checked.{behind, behind_check, checked, unless}
+use Rattle.room_effects.specs.Entering.{entering}
+use Rattle.room_effects.specs.Plans.{Plan}
 use Rattle.room_media.specs.declared.labelling.NewVolume.{NewVolume}
 use Rattle.room_media.specs.Slots.{cart_in, free_cart, is_slot}
 

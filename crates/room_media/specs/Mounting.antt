@@ -26,8 +26,8 @@ use Rattle.room_effects.specs.Effects.{
   SeenVolume,
   TakeOut,
 }
-use Rattle.room_plan.specs.Checked.{behind, behind_check, checked, unless}
-use Rattle.room_plan.specs.Plans.{Plan, Do}
+use Rattle.room_effects.specs.Checked.{behind, behind_check, checked, unless}
+use Rattle.room_effects.specs.Plans.{Plan, Do}
 use Rattle.room_media.specs.Slots.{free_cart, is_slot}
 
 -- ---- the label of a cartridge, beside its volume on record

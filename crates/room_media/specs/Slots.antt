@@ -21,9 +21,9 @@ use Rattle.room_command.specs.declared.reply.Reply.TheVariants.{Done}
 use Rattle.room_effects.specs.View.{RoomView, held_in}
 use Rattle.room_effects.specs.Effects.{Enter}
 use Rattle.room_effects.specs.Running.{has_cart}
-use Rattle.room_plan.specs.Checked.{checked, unless}
-use Rattle.room_plan.specs.Entering.{entering}
-use Rattle.room_plan.specs.Plans.{Plan}
+use Rattle.room_effects.specs.Checked.{checked, unless}
+use Rattle.room_effects.specs.Entering.{entering}
+use Rattle.room_effects.specs.Plans.{Plan}
 
 -- ---- slots and drives
 

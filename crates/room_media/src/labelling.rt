@@ -13,13 +13,13 @@ ghost use Rattle.volume_store.specs.Writes.{IsCart};
 ghost use Rattle.volume_store.specs.declared.label.Found.{Found};
 ghost use Rattle.room_effects.specs.View.{IsBetweenCommands};
 ghost use Rattle.room_effects.specs.Needs.{IsInNoDrive};
-ghost use Rattle.room_plan.specs.Checked.{ComesTo};
-ghost use Rattle.room_plan.specs.Plans.{Plan, Follows};
+ghost use Rattle.room_effects.specs.Checked.{ComesTo};
+ghost use Rattle.room_effects.specs.Plans.{Plan, Follows};
 ghost use Rattle.room_media.specs.Labelling.{IsAsked, IsLabelPlan, is_block, is_capacity};
 ghost use Rattle.room_media.specs.Labelling.{label_checks, label_of, new_volume_plan, old_label};
 ghost use Rattle.room_media.specs.Labelling.{relabel_plan, units_of};
 ghost use Rattle.room_media.specs.Slots.{cart_in};
-ghost use Rattle.room_plan.specs.Entering.{is_at_ceiling};
+ghost use Rattle.room_effects.specs.Entering.{is_at_ceiling};
 ghost use Rattle.volume_block.specs.Layout.{IsUnits};
 ghost use Rattle.room_media.specs.NewVolumes.{IsNewVolume};
 

@@ -2,7 +2,7 @@
 
 ghost use Rattle.std.specs.Prelude.{◌≡◌, IfOk, map};
 ghost use Rattle.std.specs.Option.{option_copied};
-ghost use Rattle.room_plan.specs.Plans.{Follows};
+ghost use Rattle.room_effects.specs.Plans.{Follows};
 ghost use Rattle.room_media.specs.Inventory.{inventory_plan, slot_line};
 
 use crate::drives::drive_with;

@@ -10,8 +10,8 @@ ghost use Rattle.volume_store.specs.declared.marks.MountFault.{MountFault};
 ghost use Rattle.slot_changer.specs.Drives.{IsDrive};
 ghost use Rattle.room_effects.specs.View.{held_in};
 ghost use Rattle.room_effects.specs.Needs.{IsInNoDrive};
-ghost use Rattle.room_plan.specs.Checked.{ComesTo};
-ghost use Rattle.room_plan.specs.Plans.{Plan, Follows};
+ghost use Rattle.room_effects.specs.Checked.{ComesTo};
+ghost use Rattle.room_effects.specs.Plans.{Plan, Follows};
 ghost use Rattle.room_media.specs.Mounting.{IsMountPlan, cart_plan, is_drive, mount_checks};
 ghost use Rattle.room_media.specs.Mounting.{volume_plan};
 

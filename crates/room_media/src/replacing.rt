@@ -6,7 +6,7 @@ ghost use Rattle.room_base.specs.Numbers.{max_moment};
 ghost use Rattle.room_base.specs.declared.numbers.Ssid.{Ssid};
 ghost use Rattle.media_db.specs.Rows.{volume_on};
 ghost use Rattle.room_effects.specs.View.{IsBetweenCommands};
-ghost use Rattle.room_plan.specs.Checked.{ComesTo, unless};
+ghost use Rattle.room_effects.specs.Checked.{ComesTo, unless};
 ghost use Rattle.room_base.specs.declared.refusal.Refusal.TheVariants.{Strange};
 ghost use Rattle.room_media.specs.Labelling.{IsAsked, is_known_label, label_was, may_replace};
 ghost use Rattle.room_media.specs.Labelling.{old_label};

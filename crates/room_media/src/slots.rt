@@ -3,8 +3,8 @@
 ghost use Rattle.std.specs.Prelude.{◌≡◌, ◌≤◌, IsTrue};
 ghost use Rattle.std.specs.Option.{option_copied};
 ghost use Rattle.room_base.specs.Numbers.{max_moment};
-ghost use Rattle.room_plan.specs.Checked.{ComesTo};
-ghost use Rattle.room_plan.specs.Plans.{Follows};
+ghost use Rattle.room_effects.specs.Checked.{ComesTo};
+ghost use Rattle.room_effects.specs.Plans.{Follows};
 ghost use Rattle.room_media.specs.Slots.{eject_checks, eject_plan, is_cart, is_slot, load_checks};
 ghost use Rattle.room_media.specs.Slots.{load_plan, slot_with};
 

@@ -5,8 +5,8 @@ ghost use Rattle.room_command.specs.declared.answer.Answer.TheVariants.{Empty};
 ghost use Rattle.room_command.specs.declared.reply.Reply.TheVariants as replies;
 ghost use Rattle.slot_changer.specs.Drives.{IsDrive, blocks_in};
 ghost use Rattle.room_effects.specs.View.{held_in};
-ghost use Rattle.room_plan.specs.Checked.{ComesTo};
-ghost use Rattle.room_plan.specs.Plans.{Do, Follows};
+ghost use Rattle.room_effects.specs.Checked.{ComesTo};
+ghost use Rattle.room_effects.specs.Plans.{Do, Follows};
 ghost use Rattle.room_state.specs.Commits.{IsReadyForCommits};
 ghost use Rattle.room_media.specs.Mounting.{emptying, unmount_checks, unmount_plan};
 

@@ -16,7 +16,7 @@ use Rattle.room_catalog.specs.Fits.{FitsByKind}
 use Rattle.room_catalog.specs.Held.{catalogue_of}
 use Rattle.room_catalog.specs.Invariant.{IsHeld}
 use Rattle.room_effects.specs.View.{RoomView}
-use Rattle.room_plan.specs.Checked.{behind_check, unless}
+use Rattle.room_effects.specs.Checked.{behind_check, unless}
 use Rattle.room_records.specs.declared.amending.Amendment.{Amendment}
 use Rattle.room_records.specs.Amending.{amend_checks, amended_as, in_order, is_moment, time_or}
 use Rattle.room_records.specs.Showing.{on_record}

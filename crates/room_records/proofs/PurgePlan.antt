@@ -10,8 +10,8 @@ use Rattle.room_command.specs.declared.reply.Reply.{Reply}
 use Rattle.room_command.specs.declared.reply.Reply.TheVariants.{Done}
 use Rattle.room_effects.specs.View.{RoomView}
 use Rattle.room_effects.specs.Effects.{Enter}
-use Rattle.room_plan.specs.Entering.{entering}
-use Rattle.room_plan.specs.Plans.{Follows}
+use Rattle.room_effects.specs.Entering.{entering}
+use Rattle.room_effects.specs.Plans.{Follows}
 use Rattle.room_records.specs.Purging.{purging}
 
 pub follows_some : (m : Moment) (ssids copy : List Ssid) (answer : Reply) (room new : RoomView) (before now : DiskView) → copy ≡ ssids → (length ssids == 0) ≡ false

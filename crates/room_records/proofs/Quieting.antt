@@ -5,15 +5,15 @@ use Rattle.std.specs.Option.{is_some}
 use Rattle.room_base.specs.declared.numbers.Moment.{Moment}
 use Rattle.room_base.specs.declared.refusal.Refusal.TheVariants.{TooMany}
 use Rattle.catalog_change.specs.declared.change.Change.{Change}
-use Rattle.snapshot_text.specs.Snapshots.{snapshot_text}
+use Rattle.catalog_spelling.specs.Snapshots.{snapshot_text}
 use Rattle.room_catalog.specs.Held.{catalogue_of}
 use Rattle.room_command.specs.declared.reply.Reply.{Reply}
 use Rattle.save_session.specs.Sessions.{SessionView}
 use Rattle.room_effects.specs.View.{RoomView}
 use Rattle.room_effects.specs.Effects.{Enter, TurnOver}
 use Rattle.room_between.specs.Quiet.{IsQuietPlan, LeavesOpen}
-use Rattle.room_plan.specs.Entering.{ceiling, entering, is_at_ceiling}
-use Rattle.room_plan.specs.Plans.{Do, Refuse}
+use Rattle.room_effects.specs.Entering.{ceiling, entering, is_at_ceiling}
+use Rattle.room_effects.specs.Plans.{Do, Refuse}
 
 -- whether a number is left, and whether a file of the journal is open
 module _ (m : Moment) (change : Change) (reply : Reply) (sessions : List SessionView) (leaves : LeavesOpen change sessions) (snapshot : List ℕ) where

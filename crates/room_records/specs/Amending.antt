@@ -12,9 +12,9 @@ use Rattle.room_command.specs.declared.answer.Answer.TheVariants.{Empty}
 use Rattle.room_command.specs.declared.reply.Reply.TheVariants.{Done}
 use Rattle.room_effects.specs.View.{RoomView}
 use Rattle.room_effects.specs.Effects.{Enter}
-use Rattle.room_plan.specs.Checked.{behind_check, checked, unless}
-use Rattle.room_plan.specs.Entering.{entering}
-use Rattle.room_plan.specs.Plans.{Plan}
+use Rattle.room_effects.specs.Checked.{behind_check, checked, unless}
+use Rattle.room_effects.specs.Entering.{entering}
+use Rattle.room_effects.specs.Plans.{Plan}
 use Rattle.room_records.specs.declared.amending.Amendment.{Amendment}
 use Rattle.room_records.specs.Showing.{record_of}
 

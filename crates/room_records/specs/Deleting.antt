@@ -15,9 +15,9 @@ use Rattle.room_command.specs.declared.answer.Answer.TheVariants.{Empty}
 use Rattle.room_command.specs.declared.reply.Reply.TheVariants.{Done}
 use Rattle.room_effects.specs.View.{RoomView}
 use Rattle.room_effects.specs.Effects.{Enter}
-use Rattle.room_plan.specs.Checked.{behind_check, checked, unless}
-use Rattle.room_plan.specs.Entering.{entering}
-use Rattle.room_plan.specs.Plans.{Plan}
+use Rattle.room_effects.specs.Checked.{behind_check, checked, unless}
+use Rattle.room_effects.specs.Entering.{entering}
+use Rattle.room_effects.specs.Plans.{Plan}
 
 -- What was asked of the sets on record and the open sessions. It isn't known where there is no
 -- memory for the open sessions.

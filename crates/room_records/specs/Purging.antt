@@ -12,9 +12,9 @@ use Rattle.room_command.specs.declared.answer.Answer.TheVariants.{Purged}
 use Rattle.room_command.specs.declared.reply.Reply.TheVariants.{Done}
 use Rattle.room_effects.specs.View.{RoomView}
 use Rattle.room_effects.specs.Effects.{Enter}
-use Rattle.room_plan.specs.Checked.{checked}
-use Rattle.room_plan.specs.Entering.{entering}
-use Rattle.room_plan.specs.Plans.{Plan, Do}
+use Rattle.room_effects.specs.Checked.{checked}
+use Rattle.room_effects.specs.Entering.{entering}
+use Rattle.room_effects.specs.Plans.{Plan, Do}
 use Rattle.room_records.specs.Deleting.{known}
 
 -- its index isn't given up yet

@@ -8,8 +8,8 @@ use Rattle.media_db.specs.declared.records.Record.{Record}
 use Rattle.room_command.specs.declared.answer.Answer.TheVariants.{Shown}
 use Rattle.room_command.specs.declared.reply.Reply.TheVariants.{Done}
 use Rattle.room_effects.specs.View.{RoomView}
-use Rattle.room_plan.specs.Checked.{checked}
-use Rattle.room_plan.specs.Plans.{Plan, Do}
+use Rattle.room_effects.specs.Checked.{checked}
+use Rattle.room_effects.specs.Plans.{Plan, Do}
 
 -- there has to be one
 abbrev pub on_record : Ssid → Option Record → Result Record Refusal

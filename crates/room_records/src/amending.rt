@@ -4,8 +4,8 @@ ghost use Rattle.std.specs.Prelude.{◌≡◌, ◌≤◌, IsTrue};
 ghost use Rattle.room_base.specs.Numbers.{max_moment};
 ghost use Rattle.room_catalog.specs.Invariant.{IsHeld};
 ghost use Rattle.room_effects.specs.View.{IsBetweenCommands};
-ghost use Rattle.room_plan.specs.Checked.{ComesTo};
-ghost use Rattle.room_plan.specs.Plans.{Follows};
+ghost use Rattle.room_effects.specs.Checked.{ComesTo};
+ghost use Rattle.room_effects.specs.Plans.{Follows};
 ghost use Rattle.room_records.specs.Amending.{amend_checks, amend_plan, amended_as, hold_or};
 ghost use Rattle.room_records.specs.Amending.{in_order, is_moment, time_or};
 

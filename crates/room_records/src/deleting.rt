@@ -6,8 +6,8 @@ ghost use Rattle.room_base.specs.declared.numbers.Ssid.{Ssid};
 ghost use Rattle.media_db.specs.Rows.{find_record};
 ghost use Rattle.save_session.specs.Sessions.{find_session};
 ghost use Rattle.room_effects.specs.View.{IsBetweenCommands};
-ghost use Rattle.room_plan.specs.Checked.{ComesTo};
-ghost use Rattle.room_plan.specs.Plans.{Plan, Follows};
+ghost use Rattle.room_effects.specs.Checked.{ComesTo};
+ghost use Rattle.room_effects.specs.Plans.{Plan, Follows};
 ghost use Rattle.room_records.specs.Deleting.{IsDeletePlan, IsUser, delete_checks, no_user};
 ghost use Rattle.room_records.specs.Deleting.{unused};
 

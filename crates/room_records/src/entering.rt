@@ -10,8 +10,8 @@ ghost use Rattle.room_effects.specs.View.{IsBetweenCommands};
 ghost use Rattle.room_effects.specs.Effects.{Enter};
 ghost use Rattle.room_effects.specs.Needs.{IsWholeChange};
 ghost use Rattle.room_between.specs.Quiet.{LeavesOpen};
-ghost use Rattle.room_plan.specs.Entering.{entering};
-ghost use Rattle.room_plan.specs.Plans.{Follows};
+ghost use Rattle.room_effects.specs.Entering.{entering};
+ghost use Rattle.room_effects.specs.Plans.{Follows};
 
 use catalog_change::Change;
 use room_base::Moment;

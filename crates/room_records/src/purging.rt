@@ -3,7 +3,7 @@
 ghost use Rattle.std.specs.Prelude.{◌≡◌, ◌≤◌, IfOk, IsTrue, filter};
 ghost use Rattle.room_base.specs.Numbers.{max_moment};
 ghost use Rattle.room_effects.specs.View.{IsBetweenCommands};
-ghost use Rattle.room_plan.specs.Plans.{Plan, Follows};
+ghost use Rattle.room_effects.specs.Plans.{Plan, Follows};
 ghost use Rattle.room_records.specs.Purging.{AreToPurge, IsNsrimPlan, is_unpurged, purging};
 
 use crate::entering::enter;

@@ -1,8 +1,8 @@
 //! Showing what is known of a save set.
 
 ghost use Rattle.std.specs.Prelude.{◌≡◌};
-ghost use Rattle.room_plan.specs.Checked.{ComesTo};
-ghost use Rattle.room_plan.specs.Plans.{Follows};
+ghost use Rattle.room_effects.specs.Checked.{ComesTo};
+ghost use Rattle.room_effects.specs.Plans.{Follows};
 ghost use Rattle.room_records.specs.Showing.{record_of, show_plan};
 
 use media_db::Record;

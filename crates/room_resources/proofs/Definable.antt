@@ -15,8 +15,8 @@ use Rattle.resource_text.specs.declared.fault.TextFault.{TextFault}
 use Rattle.resource_text.specs.declared.fault.TextFault.TheVariants as faults
 use Rattle.room_command.specs.declared.reply.Reply.TheVariants.{Refused}
 use Rattle.room_effects.specs.View.{RoomView}
-use Rattle.room_plan.specs.Plans.{Plan, Refuse, Follows}
-use Rattle.room_plan.proofs.Following.{follows_refusal}
+use Rattle.room_effects.specs.Plans.{Plan, Refuse, Follows}
+use Rattle.room_effects.proofs.Following.{follows_refusal}
 use Rattle.room_rules.specs.declared.group.Member.{Member}
 use Rattle.catalog_change.specs.declared.resource.Resource.{Resource}
 use Rattle.catalog_change.specs.declared.resource.Resource.TheVariants as resources

@@ -5,7 +5,7 @@ use Rattle.std.specs.List.{AllByRecursion, find}
 use Rattle.std.specs.Option.{option_map, option_or}
 use Rattle.std.proofs.lemmas.Bool.{false≢true, true≢false}
 use Rattle.room_base.specs.declared.refusal.Refusal.{Refusal}
-use Rattle.room_plan.specs.Checked.{unless}
+use Rattle.room_effects.specs.Checked.{unless}
 use Rattle.room_resources.specs.Called.{Called, refused_for}
 
 -- ---- options

@@ -26,9 +26,9 @@ use Rattle.room_command.specs.declared.answer.Answer.TheVariants as answers
 use Rattle.room_command.specs.declared.reply.Reply.TheVariants as replies
 use Rattle.room_effects.specs.View.{RoomView}
 use Rattle.room_effects.specs.Effects.{Enter}
-use Rattle.room_plan.specs.Checked.{checked, unless}
-use Rattle.room_plan.specs.Entering.{entering}
-use Rattle.room_plan.specs.Plans.{Plan, Refuse}
+use Rattle.room_effects.specs.Checked.{checked, unless}
+use Rattle.room_effects.specs.Entering.{entering}
+use Rattle.room_effects.specs.Plans.{Plan, Refuse}
 use Rattle.room_resources.specs.Called.{Called, called, exists, has, is_same, no_such, refused_for}
 
 -- ---- what new resources need

@@ -5,7 +5,7 @@ ghost use Rattle.std.specs.List.{find, list_any};
 ghost use Rattle.catalog_change.specs.Resources.{kind_of, name_of};
 ghost use Rattle.catalog_change.specs.declared.resource.Resource.TheVariants as resources;
 ghost use Rattle.resource_lists.specs.Counts.{counted, counts_of};
-ghost use Rattle.room_plan.specs.Checked.{ComesTo};
+ghost use Rattle.room_effects.specs.Checked.{ComesTo};
 ghost use Rattle.room_resources.specs.Called.{called, has, no_such, refused_for};
 ghost use Rattle.room_resources.specs.Defining.{first_missing, first_there, goes_by, have_room};
 ghost use Rattle.room_resources.specs.Defining.{is_there, may_define, missing, missing_client};

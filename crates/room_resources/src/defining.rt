@@ -5,7 +5,7 @@ ghost use Rattle.std.specs.List.{AllByRecursion};
 ghost use Rattle.room_base.specs.Numbers.{max_moment};
 ghost use Rattle.catalog_change.specs.Resources.{IsResource};
 ghost use Rattle.resource_lists.specs.Adding.{AreDistinct};
-ghost use Rattle.room_plan.specs.Plans.{Follows, Plan};
+ghost use Rattle.room_effects.specs.Plans.{Follows, Plan};
 ghost use Rattle.room_resources.specs.Defining.{IsDefinePlan, define_plan, fault_refusal};
 
 use crate::adding::may_define;

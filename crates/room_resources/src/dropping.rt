@@ -4,8 +4,8 @@ ghost use Rattle.std.specs.Prelude.{◌≡◌, ◌≤◌, IsTrue};
 ghost use Rattle.room_base.specs.Numbers.{max_moment};
 ghost use Rattle.catalog_change.specs.Catalogues.{HasResources};
 ghost use Rattle.room_catalog.specs.Held.{catalogue_of};
-ghost use Rattle.room_plan.specs.Checked.{ComesTo};
-ghost use Rattle.room_plan.specs.Plans.{Follows};
+ghost use Rattle.room_effects.specs.Checked.{ComesTo};
+ghost use Rattle.room_effects.specs.Plans.{Follows};
 ghost use Rattle.room_resources.specs.Dropping.{drop_plan, may_drop};
 
 use crate::calls::{has, kind_word, no_such};

@@ -11,7 +11,7 @@ ghost use Rattle.cat_journal.specs.Journal.{AddsEntry, IsKnown, IsLast, IsOpen, 
 ghost use Rattle.cat_journal.specs.Journal.{MayAddEntry, file_of, form_of, new_text, next_file};
 ghost use Rattle.cat_journal.specs.Journal.{next_head, turned_over};
 ghost use Rattle.catalog_change.specs.Changes.{IsChange};
-ghost use Rattle.catalog_text.specs.Decoding.{IsStamped};
+ghost use Rattle.catalog_spelling.specs.Decoding.{IsStamped};
 ghost use Rattle.room_effects.specs.Effects.{behind_change, behind_part, entry_bytes, is_at_last};
 ghost use Rattle.room_state.specs.Memory.{without_spare};
 

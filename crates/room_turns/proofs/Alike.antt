@@ -4,12 +4,12 @@ use Rattle.room_base.specs.declared.numbers.Moment.{Moment}
 use Rattle.catalog_change.specs.Catalogues.{Catalogue}
 use Rattle.catalog_change.specs.declared.change.Change.{Change}
 use Rattle.catalog_change.specs.declared.change.Change.TheVariants.{Defined, Dropped, Loaded, Ejected, Labelled, Begun, Finished, Aborted, Amended, Deleted, Purged, CopyBegun, CopyDone, IndexPart, FinishedParts}
-use Rattle.catalog_text.specs.Changes.{Stamped}
+use Rattle.catalog_spelling.specs.Changes.{Stamped}
 use Rattle.room_catalog.specs.Changing.{catalogue_after, without_parts}
 use Rattle.room_catalog.specs.Held.{CatalogueLists, catalogue_of}
 use Rattle.room_effects.specs.Running.{catalogue_behind}
 use Rattle.room_effects.proofs.Changing.{AreIndexed, IsIndexed, after_bare}
-use Rattle.journal_replay.proofs.Alike.{alike_after}
+use Rattle.journal_files.proofs.Alike.{alike_after}
 
 bare_alike : (m : Moment) (change : Change) (one other : CatalogueLists) → catalogue_of one ≡ catalogue_of other
     → catalogue_of (catalogue_after m change (without_parts one)) ≡ catalogue_of (catalogue_after m change (without_parts other))

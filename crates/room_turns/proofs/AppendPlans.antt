@@ -15,7 +15,7 @@ use Rattle.room_command.specs.declared.reply.Reply.TheVariants as replies
 use Rattle.room_effects.specs.View.{RoomView}
 use Rattle.room_effects.specs.Effects.{Take}
 use Rattle.room_effects.specs.Running.{nothing_known}
-use Rattle.room_plan.specs.Plans.{Do, Plan, Refuse}
+use Rattle.room_effects.specs.Plans.{Do, Plan, Refuse}
 use Rattle.room_placing.specs.Placing.{placing}
 use Rattle.save_append.specs.Appending.{IsAppendPlan, IsNewPlan, IsSentPlan, IsSessionPlan, bad_piece, judged, max_piece, on_drive, taking}
 use Rattle.room_turns.specs.Orderly.{IsNoFault, IsOrderly}

@@ -15,9 +15,9 @@ use Rattle.room_command.specs.declared.answer.Answer.TheVariants as answers
 use Rattle.room_effects.specs.View.{RoomView}
 use Rattle.room_effects.specs.Effects.{Close, Enter, Open}
 use Rattle.room_effects.specs.Running.{nothing_known}
-use Rattle.room_plan.specs.Checked.{unless}
-use Rattle.room_plan.specs.Entering.{ceiling, is_at_ceiling, with_first_file}
-use Rattle.room_plan.specs.Plans.{Plan, Refuse}
+use Rattle.room_effects.specs.Checked.{unless}
+use Rattle.room_effects.specs.Entering.{ceiling, is_at_ceiling, with_first_file}
+use Rattle.room_effects.specs.Plans.{Plan, Refuse}
 use Rattle.room_placing.specs.Placing.{placing}
 use Rattle.room_rules.specs.declared.group.Group.{Group}
 use Rattle.room_rules.specs.declared.group.Planned.{Planned}

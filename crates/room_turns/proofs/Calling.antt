@@ -6,8 +6,8 @@ use Rattle.room_effects.specs.View.{IsRoom, RoomView}
 use Rattle.room_effects.specs.Reopening.{ReopensAfterSome}
 use Rattle.room_effects.specs.Running.{nothing_known, trail}
 use Rattle.room_effects.proofs.ReopeningDisks.{crashes_reopen, images_reopen}
-use Rattle.journal_replay.specs.Files.{IsSnapshot, ReplaysTo}
-use Rattle.journal_replay.proofs.Snapshots.{have_snapshots}
+use Rattle.journal_files.specs.Files.{IsSnapshot, ReplaysTo}
+use Rattle.journal_files.proofs.Snapshots.{have_snapshots}
 use Rattle.room_turns.specs.Calls.{ReopensWithinTwo}
 use Rattle.room_turns.specs.Served.{IsServable}
 use Rattle.room_turns.specs.Steps.{Call, Turn}

@@ -5,7 +5,7 @@ use Rattle.std.specs.Prelude.{IsTrue, Ok, Err, Result}
 use Rattle.room_base.specs.declared.refusal.Refusal.{Refusal}
 use Rattle.room_disk.specs.Disk.{Image}
 use Rattle.cat_journal.specs.Journal.{KnowsFiles}
-use Rattle.catalog_text.specs.Changes.{Stamped}
+use Rattle.catalog_spelling.specs.Changes.{Stamped}
 use Rattle.room_catalog.specs.Changing.{without_parts}
 use Rattle.room_catalog.specs.Held.{CatalogueLists, catalogue_of}
 use Rattle.room_effects.specs.View.{IsRoom, RoomView}
@@ -20,7 +20,7 @@ use Rattle.room_effects.proofs.Running.{catalogue_append}
 use Rattle.room_effects.proofs.Standing.{StandsAs, stands_first}
 use Rattle.room_turns.specs.Runs.{failed, stood}
 use Rattle.room_turns.specs.Served.{ReopensBehind, ReopensNow}
-use Rattle.journal_replay.specs.Files.{IsSnapshot, ReplaysTo}
+use Rattle.journal_files.specs.Files.{IsSnapshot, ReplaysTo}
 
 -- ---- the changes that stand, and the one whose entry failed
 

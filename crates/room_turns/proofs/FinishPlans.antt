@@ -12,16 +12,16 @@ use Rattle.media_db.specs.declared.records.Record.{Record}
 use Rattle.save_session.specs.Sessions.{SessionView, find_session}
 use Rattle.slot_changer.specs.Drives.{holds_set}
 use Rattle.cat_journal.specs.Journal.{form_of}
-use Rattle.snapshot_text.specs.Snapshots.{snapshot_text}
+use Rattle.catalog_spelling.specs.Snapshots.{snapshot_text}
 use Rattle.room_catalog.specs.Held.{catalogue_of}
 use Rattle.room_command.specs.declared.answer.Answer.{Answer}
 use Rattle.room_command.specs.declared.answer.Answer.TheVariants as answers
 use Rattle.room_effects.specs.View.{RoomView, held_in}
 use Rattle.room_effects.specs.Effects.{Close, Commit, Effect, Enter, EnterPart, TurnOver}
 use Rattle.room_effects.specs.Running.{nothing_known}
-use Rattle.room_plan.specs.Checked.{behind_check, unless}
-use Rattle.room_plan.specs.Entering.{ceiling, is_at_ceiling}
-use Rattle.room_plan.specs.Plans.{Do, Plan, Refuse}
+use Rattle.room_effects.specs.Checked.{behind_check, unless}
+use Rattle.room_effects.specs.Entering.{ceiling, is_at_ceiling}
+use Rattle.room_effects.specs.Plans.{Do, Plan, Refuse}
 use Rattle.sha2.specs.Sha256.{sha256}
 use Rattle.catalog_change.specs.Changes.{max_part}
 use Rattle.save_finish.specs.Ending.{commit_of, commits_to, ending, entering_end, entering_parts, finished_parts, finished_whole, part_count, part_of, parts_to, second_form}

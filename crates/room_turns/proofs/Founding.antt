@@ -8,8 +8,8 @@ use Rattle.room_effects.specs.View.{RoomView}
 use Rattle.room_effects.specs.Effects.{Broken, Deed, Done, Effect, Enter, EnterPart, Look, WriteLabel, PutIn, TakeOut, Commit, TurnOver, Push, Open, Take, Close, after_done}
 use Rattle.room_effects.specs.Running.{AreFounded, IsFounded, Known, RanTo, entered, known_behind, nothing_known, trail}
 use Rattle.room_effects.proofs.Changing.{entered_alike}
-use Rattle.room_plan.specs.Entering.{moment_of}
-use Rattle.room_plan.specs.Plans.{Do, IsTurn, Plan, Refuse}
+use Rattle.room_effects.specs.Entering.{moment_of}
+use Rattle.room_effects.specs.Plans.{Do, IsTurn, Plan, Refuse}
 use Rattle.room_turns.specs.Orderly.{AreFoundedIn, IsOrderly, entries_in}
 use Rattle.room_turns.specs.Runs.{failed}
 use Rattle.room_turns.specs.Steps.{Call, IsAnswer}

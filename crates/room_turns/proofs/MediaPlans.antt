@@ -25,8 +25,8 @@ use Rattle.room_command.specs.declared.reply.Reply.TheVariants as replies
 use Rattle.room_effects.specs.View.{RoomView, held_in}
 use Rattle.room_effects.specs.Effects.{Commit, Effect, Enter, Seen, SeenLabel, SeenVolume, TakeOut, WriteLabel}
 use Rattle.room_effects.specs.Running.{Known, known_of, nothing_known}
-use Rattle.room_plan.specs.Checked.{behind_check, checked, unless}
-use Rattle.room_plan.specs.Plans.{Plan}
+use Rattle.room_effects.specs.Checked.{behind_check, checked, unless}
+use Rattle.room_effects.specs.Plans.{Plan}
 use Rattle.room_media.specs.Inventory.{inventory_plan}
 use Rattle.room_media.specs.Labelling.{IsLabelPlan, has_pool, is_block, is_capacity, is_known_label, label_checks, label_of, label_was, may_replace, new_volume_plan, next_volid, old_label, units_of}
 use Rattle.room_media.specs.Mounting.{IsMountPlan, IsOn, cart_plan, found_own, into_empty, is_drive, mount_checks, mounted_own, no_label, own_label, put_in_plan, unmount_checks, unmount_plan, volume_plan}

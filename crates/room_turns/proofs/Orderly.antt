@@ -5,7 +5,7 @@ use Rattle.std.specs.Option.{is_some}
 use Rattle.std.specs.Prelude.{Result, Ok, Err, true}
 use Rattle.room_base.specs.declared.refusal.Refusal.{Refusal}
 use Rattle.room_base.specs.declared.refusal.Refusal.TheVariants.{TooMany}
-use Rattle.snapshot_text.specs.Snapshots.{snapshot_text}
+use Rattle.catalog_spelling.specs.Snapshots.{snapshot_text}
 use Rattle.room_catalog.specs.Held.{catalogue_of}
 use Rattle.room_command.specs.declared.reply.Reply.{Reply}
 use Rattle.room_command.specs.declared.reply.Reply.TheVariants as replies
@@ -13,9 +13,9 @@ use Rattle.room_command.specs.declared.answer.Answer.{Answer}
 use Rattle.room_effects.specs.View.{RoomView}
 use Rattle.room_effects.specs.Effects.{Effect, Look, Seen, TurnOver, after_done}
 use Rattle.room_effects.specs.Running.{Known, known_of}
-use Rattle.room_plan.specs.Checked.{behind, behind_check, checked, unless}
-use Rattle.room_plan.specs.Entering.{ceiling, entering, is_at_ceiling, with_first_file}
-use Rattle.room_plan.specs.Plans.{Do, Plan, Refuse}
+use Rattle.room_effects.specs.Checked.{behind, behind_check, checked, unless}
+use Rattle.room_effects.specs.Entering.{ceiling, entering, is_at_ceiling, with_first_file}
+use Rattle.room_effects.specs.Plans.{Do, Plan, Refuse}
 use Rattle.room_turns.specs.Orderly.{AreFoundedIn, AreOrderly, IsNoFault, IsOrderly, entries_in}
 
 -- ---- checks

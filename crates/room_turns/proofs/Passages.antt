@@ -2,7 +2,7 @@
 use Rattle.std.proofs.Common.{◌≡◌, ℕ, ◌+◌, List, [], ◌∷◌, ◌++◌, refl, sym, ap, ◌∙◌, arith, append_assoc}
 use Rattle.std.proofs.lemmas.List.{append-nil}
 use Rattle.std.specs.Prelude.{IsTrue}
-use Rattle.catalog_text.specs.Changes.{Stamped}
+use Rattle.catalog_spelling.specs.Changes.{Stamped}
 use Rattle.room_effects.specs.View.{RoomView}
 use Rattle.room_effects.specs.Running.{failures}
 use Rattle.room_turns.specs.Runs.{AreAnswered, Passage, behind, behind_all, failed, failures_in, left_open, stands_behind, trail_of, unless_reopened}

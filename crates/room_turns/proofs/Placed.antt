@@ -8,7 +8,7 @@ use Rattle.room_command.specs.declared.reply.Reply.TheVariants as replies
 use Rattle.room_effects.specs.View.{RoomView, held_in}
 use Rattle.room_effects.specs.Effects.{Commit, Effect, Push}
 use Rattle.room_effects.specs.Running.{nothing_known}
-use Rattle.room_plan.specs.Plans.{Do, Plan}
+use Rattle.room_effects.specs.Plans.{Do, Plan}
 use Rattle.room_placing.specs.Placing.{committing, placing}
 use Rattle.room_turns.specs.Orderly.{IsOrderly}
 use Rattle.room_turns.proofs.Plain.{IsPlainWith, both_plain}

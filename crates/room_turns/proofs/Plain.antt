@@ -4,15 +4,15 @@ use Rattle.std.proofs.lemmas.Bool.{cond_both}
 use Rattle.std.specs.List.{AllByRecursion}
 use Rattle.std.specs.Option.{is_some}
 use Rattle.std.specs.Prelude.{true}
-use Rattle.snapshot_text.specs.Snapshots.{snapshot_text}
+use Rattle.catalog_spelling.specs.Snapshots.{snapshot_text}
 use Rattle.room_catalog.specs.Held.{catalogue_of}
 use Rattle.room_command.specs.declared.answer.Answer.{Answer}
 use Rattle.room_command.specs.declared.reply.Reply.TheVariants as replies
 use Rattle.room_effects.specs.View.{RoomView}
 use Rattle.room_effects.specs.Effects.{Close, Commit, Done, Effect, Enter, EnterPart, Look, Open, Push, PutIn, Take, TakeOut, TurnOver, WriteLabel, after_done}
 use Rattle.room_effects.specs.Running.{Known, known_behind}
-use Rattle.room_plan.specs.Entering.{with_first_file}
-use Rattle.room_plan.specs.Plans.{Do}
+use Rattle.room_effects.specs.Entering.{with_first_file}
+use Rattle.room_effects.specs.Plans.{Do}
 use Rattle.room_turns.specs.Orderly.{AreFoundedIn, IsOrderly, entries_in}
 
 abbrev pub IsPlain : Effect → Type 0

@@ -4,7 +4,7 @@ use Rattle.room_command.specs.declared.command.Command.{Command}
 use Rattle.room_command.specs.declared.command.Command.TheVariants as commands
 use Rattle.room_effects.specs.View.{RoomView}
 use Rattle.room_effects.specs.Running.{nothing_known}
-use Rattle.room_plan.specs.Plans.{Plan}
+use Rattle.room_effects.specs.Plans.{Plan}
 use Rattle.room_turns.specs.Orderly.{IsOrderly}
 use Rattle.room_turns.specs.Steps.{IsPlanOf}
 use Rattle.room_turns.proofs.AppendPlans.{append_orderly}

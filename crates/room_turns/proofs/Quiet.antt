@@ -14,7 +14,7 @@ use Rattle.catalog_change.specs.declared.change.Change.TheVariants as changes
 use Rattle.catalog_change.specs.declared.resource.Resource.{Resource}
 use Rattle.catalog_change.specs.declared.resource.ResourceKind.{ResourceKind}
 use Rattle.resource_text.specs.Reading.{Outcome}
-use Rattle.snapshot_text.specs.Snapshots.{snapshot_text}
+use Rattle.catalog_spelling.specs.Snapshots.{snapshot_text}
 use Rattle.room_catalog.specs.Held.{catalogue_of}
 use Rattle.save_session.specs.Sessions.{SessionView}
 use Rattle.slot_changer.specs.Drives.{blocks_in}
@@ -24,9 +24,9 @@ use Rattle.room_command.specs.declared.reply.Reply.{Reply}
 use Rattle.room_command.specs.declared.reply.Reply.TheVariants as replies
 use Rattle.room_effects.specs.View.{RoomView, held_in}
 use Rattle.room_effects.specs.Effects.{Commit, Effect, Enter, Look, Seen, SeenLabel, SeenVolume, TakeOut, TurnOver, WriteLabel}
-use Rattle.room_plan.specs.Checked.{behind, checked}
-use Rattle.room_plan.specs.Entering.{ceiling, entering, is_at_ceiling, with_first_file}
-use Rattle.room_plan.specs.Plans.{Do, Plan, Refuse}
+use Rattle.room_effects.specs.Checked.{behind, checked}
+use Rattle.room_effects.specs.Entering.{ceiling, entering, is_at_ceiling, with_first_file}
+use Rattle.room_effects.specs.Plans.{Do, Plan, Refuse}
 use Rattle.room_between.specs.Quiet.{IsQuiet, IsQuietPlan}
 use Rattle.room_media.specs.Labelling.{IsLabelPlan, label_checks, label_of, new_volume_plan, next_volid, old_label}
 use Rattle.room_media.specs.Mounting.{IsMountPlan, found_own, mount_checks, mounted_own, put_in_plan, unmount_checks, unmount_plan, volume_plan}

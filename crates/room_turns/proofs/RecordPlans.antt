@@ -11,8 +11,8 @@ use Rattle.room_command.specs.declared.answer.Answer.TheVariants as answers
 use Rattle.room_effects.specs.View.{RoomView}
 use Rattle.room_effects.specs.Effects.{Enter}
 use Rattle.room_effects.specs.Running.{nothing_known}
-use Rattle.room_plan.specs.Checked.{unless}
-use Rattle.room_plan.specs.Plans.{Plan}
+use Rattle.room_effects.specs.Checked.{unless}
+use Rattle.room_effects.specs.Plans.{Plan}
 use Rattle.room_records.specs.Amending.{amend_checks, amend_plan, amended_as, in_order, is_moment}
 use Rattle.room_records.specs.Deleting.{IsDeletePlan, delete_checks, is_on_record, is_open, known, no_user, unused}
 use Rattle.room_records.specs.Purging.{IsNsrimPlan, purging}

@@ -18,8 +18,8 @@ use Rattle.room_effects.specs.Effects.{Broken, Close, Commit, Deed, Done, Effect
 use Rattle.room_effects.specs.Faults.{fault_of, ssids_of}
 use Rattle.room_effects.specs.Files.{Touches}
 use Rattle.room_effects.specs.Running.{AreLooks, Crashed, Led, Performed, RanTo, Ready, nothing_known}
-use Rattle.room_plan.specs.Plans.{Do, IsTurn, Plan, Refuse}
-use Rattle.room_plan.specs.Entering.{moment_of}
+use Rattle.room_effects.specs.Plans.{Do, IsTurn, Plan, Refuse}
+use Rattle.room_effects.specs.Entering.{moment_of}
 use Rattle.room_turns.specs.Orderly.{AreReads, IsNoFault, IsOrderly, IsOrderlyReply}
 use Rattle.room_turns.specs.Steps.{Call, IsAnswer}
 use Rattle.room_turns.proofs.Founding.{answer_founded}

@@ -16,7 +16,7 @@ use Rattle.room_command.specs.declared.answer.Answer.TheVariants as answers
 use Rattle.room_effects.specs.View.{RoomView}
 use Rattle.room_effects.specs.Effects.{Enter}
 use Rattle.room_effects.specs.Running.{nothing_known}
-use Rattle.room_plan.specs.Plans.{Plan}
+use Rattle.room_effects.specs.Plans.{Plan}
 use Rattle.room_resources.specs.Called.{Called, exists, has, in_use, no_such, refused_for, called}
 use Rattle.room_resources.specs.Defining.{IsDefinePlan, define_plan, first_missing, first_there, have_room, may_define}
 use Rattle.room_resources.specs.Dropping.{drop_plan, may_drop, user_of}

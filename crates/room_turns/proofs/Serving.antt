@@ -12,7 +12,7 @@ use Rattle.catalog_change.specs.declared.change.Change.TheVariants.{Defined, Dro
 use Rattle.room_disk.specs.Disk.{DiskView, Image, Images, IsDisk, Quiet}
 use Rattle.room_disk.proofs.Runs.{leaves_none, leaves_quiet, leaves_then, leaves_weaker, quiet_none}
 use Rattle.cat_journal.specs.Images.{IsJournal}
-use Rattle.catalog_text.specs.Changes.{Stamped}
+use Rattle.catalog_spelling.specs.Changes.{Stamped}
 use Rattle.room_catalog.specs.Changing.{catalogue_after}
 use Rattle.room_catalog.specs.Held.{CatalogueLists, catalogue_of}
 use Rattle.room_catalog.specs.Invariant.{IsHeld}
@@ -27,9 +27,9 @@ use Rattle.room_effects.proofs.Reopening.{take_behind, take_front}
 use Rattle.room_effects.proofs.ReopeningDisks.{crashes_reopen}
 use Rattle.room_effects.proofs.Running.{catalogue_append}
 use Rattle.room_effects.proofs.Standing.{reopens_kept}
-use Rattle.journal_replay.specs.Files.{IsSnapshot, ReplaysTo}
-use Rattle.journal_replay.proofs.Once.{one_catalogue}
-use Rattle.journal_replay.proofs.Snapshots.{have_snapshots}
+use Rattle.journal_files.specs.Files.{IsSnapshot, ReplaysTo}
+use Rattle.journal_files.proofs.Once.{one_catalogue}
+use Rattle.journal_files.proofs.Snapshots.{have_snapshots}
 use Rattle.room_turns.specs.Steps.{Call, IsAnswer, Turn}
 use Rattle.room_turns.specs.Runs.{AreAnswered, Passage, Reopening, behind_all, failed, failures_in, found_again, left_open, stands_behind, stood, trail_of}
 use Rattle.room_turns.specs.Served.{IsServable, Leads, ReopensAs, ReopensBehind, ReopensInFault, ReopensInRun, ReopensNow, Served, made_by}

@@ -1,7 +1,7 @@
 -- What one call leaves on the disk.
 use Rattle.std.specs.Prelude.{◌≤◌, List, length}
 use Rattle.room_disk.specs.Disk.{Image}
-use Rattle.catalog_text.specs.Changes.{Stamped}
+use Rattle.catalog_spelling.specs.Changes.{Stamped}
 use Rattle.room_catalog.specs.Held.{CatalogueLists}
 use Rattle.room_turns.specs.Served.{ReopensBehind}
 

@@ -7,7 +7,7 @@ use Rattle.room_command.specs.declared.reply.Reply.TheVariants as replies
 use Rattle.room_effects.specs.View.{RoomView}
 use Rattle.room_effects.specs.Effects.{Effect, Enter, Look, Done, after_done}
 use Rattle.room_effects.specs.Running.{IsFounded, Known, known_behind}
-use Rattle.room_plan.specs.Plans.{Plan, Refuse, Do}
+use Rattle.room_effects.specs.Plans.{Plan, Refuse, Do}
 
 -- each label is written, and each volume put in, behind the read that saw it
 abbrev pub AreFoundedIn : Known → List Effect → RoomView → Type 0

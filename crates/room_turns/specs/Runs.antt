@@ -2,7 +2,7 @@
 use Rattle.std.specs.Prelude.{ℕ, ◌+◌, ◌==◌, IsTrue, List, [], ◌∷◌, ◌++◌}
 use Rattle.std.specs.Prelude.{Option, Some, None, if◌then◌else◌}
 use Rattle.cat_journal.specs.Journal.{JournalView}
-use Rattle.catalog_text.specs.Changes.{Stamped}
+use Rattle.catalog_spelling.specs.Changes.{Stamped}
 use Rattle.room_catalog.specs.Held.{CatalogueLists}
 use Rattle.room_effects.specs.View.{RoomView, opened_room}
 use Rattle.room_effects.specs.Effects.{Deed, Done, Broken, after, after_all}

@@ -4,11 +4,11 @@ use Rattle.std.specs.Prelude.{◌≡◌, ◌⊎◌, ℕ, ◌≤◌, Bool, true, 
 use Rattle.room_base.specs.Outside.{Told}
 use Rattle.room_disk.specs.Disk.{DiskView, Image, Images, Leaves}
 use Rattle.catalog_change.specs.Catalogues.{Catalogue}
-use Rattle.catalog_text.specs.Changes.{Stamped}
+use Rattle.catalog_spelling.specs.Changes.{Stamped}
 use Rattle.room_catalog.specs.Held.{CatalogueLists, catalogue_of}
 use Rattle.room_effects.specs.View.{IsRoom, RoomView}
 use Rattle.room_effects.specs.Running.{Ready, catalogue_behind, nothing_known, risen_by, trail}
-use Rattle.journal_replay.specs.Files.{ReplaysTo}
+use Rattle.journal_files.specs.Files.{ReplaysTo}
 use Rattle.room_turns.specs.Runs.{
   AreAnswered,
   Passage,

@@ -8,8 +8,8 @@ use Rattle.room_command.specs.declared.reply.Reply.{Reply}
 use Rattle.room_effects.specs.View.{RoomView}
 use Rattle.room_effects.specs.Effects.{Deed}
 use Rattle.room_effects.specs.Running.{Performed}
-use Rattle.room_plan.specs.Entering.{moment_of}
-use Rattle.room_plan.specs.Plans.{Plan, IsTurn}
+use Rattle.room_effects.specs.Entering.{moment_of}
+use Rattle.room_effects.specs.Plans.{Plan, IsTurn}
 use Rattle.room_media.specs.Inventory.{inventory_plan}
 use Rattle.room_media.specs.Labelling.{IsLabelPlan}
 use Rattle.room_media.specs.Mounting.{IsMountPlan, unmount_plan}

@@ -8,7 +8,7 @@ ghost use Rattle.room_disk.specs.Disk.{Image, Images, Leaves, Quiet};
 ghost use Rattle.room_effects.specs.View.{IsRoom, RoomView};
 ghost use Rattle.room_effects.specs.Effects.{Deed};
 ghost use Rattle.room_effects.specs.Running.{Ready, nothing_known, trail};
-ghost use Rattle.journal_replay.specs.Files.{ReplaysTo};
+ghost use Rattle.journal_files.specs.Files.{ReplaysTo};
 ghost use Rattle.room_turns.specs.Calls.{ReopensWithinTwo};
 ghost use Rattle.room_turns.specs.Orderly.{IsNoFault};
 ghost use Rattle.room_turns.specs.Served.{IsServable};

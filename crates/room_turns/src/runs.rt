@@ -7,7 +7,7 @@ ghost use Rattle.cat_journal.specs.Images.{IsJournal};
 ghost use Rattle.room_catalog.specs.Invariant.{IsHeld};
 ghost use Rattle.room_effects.specs.View.{IsJournalOf, IsRoom, RoomView, opened_room};
 ghost use Rattle.room_effects.specs.Effects.{Deed};
-ghost use Rattle.journal_replay.specs.Files.{ReplaysTo};
+ghost use Rattle.journal_files.specs.Files.{ReplaysTo};
 ghost use Rattle.room_turns.specs.Steps.{Call, Turn};
 ghost use Rattle.room_turns.specs.Runs.{Passage, Reopening};
 ghost use Rattle.room_turns.specs.Served.{Served};

@@ -13,8 +13,8 @@ use Rattle.save_session.specs.declared.checked.Checked.TheVariants as checks
 use Rattle.save_session.specs.Sessions.{SessionView, check_open, check_sent}
 use Rattle.room_command.specs.declared.reply.Reply.TheVariants.{Refused}
 use Rattle.room_effects.specs.View.{RoomView}
-use Rattle.room_plan.specs.Plans.{Follows, Plan, Refuse}
-use Rattle.room_plan.proofs.Following.{follows_no_memory, follows_refusal}
+use Rattle.room_effects.specs.Plans.{Follows, Plan, Refuse}
+use Rattle.room_effects.proofs.Following.{follows_no_memory, follows_refusal}
 use Rattle.room_placing.specs.Placing.{IsDriveFor}
 use Rattle.save_append.specs.Appending.{IsNewPlan, IsSessionPlan, IsSentPlan, max_piece, on_drive}
 

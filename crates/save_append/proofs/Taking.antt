@@ -25,8 +25,8 @@ use Rattle.room_effects.specs.Running.{Does}
 use Rattle.room_effects.proofs.Does.{does_then}
 use Rattle.room_effects.proofs.Sending.{does_take}
 use Rattle.room_between.specs.Middle.{EndsWith}
-use Rattle.room_plan.specs.Plans.{Follows, Plan, Refuse}
-use Rattle.room_plan.proofs.Following.{follows_done, follows_fault, follows_no_memory, follows_refusal}
+use Rattle.room_effects.specs.Plans.{Follows, Plan, Refuse}
+use Rattle.room_effects.proofs.Following.{follows_done, follows_fault, follows_no_memory, follows_refusal}
 use Rattle.room_placing.specs.Placing.{placing}
 use Rattle.save_append.specs.Appending.{bad_piece, judged, on_drive, taking}
 

@@ -15,7 +15,7 @@ use Rattle.room_command.specs.declared.answer.Answer.TheVariants.{Next}
 use Rattle.room_command.specs.declared.reply.Reply.TheVariants.{Done}
 use Rattle.room_effects.specs.View.{RoomView}
 use Rattle.room_effects.specs.Effects.{Take}
-use Rattle.room_plan.specs.Plans.{Plan, Refuse, Do}
+use Rattle.room_effects.specs.Plans.{Plan, Refuse, Do}
 use Rattle.room_placing.specs.Placing.{IsDriveFor, placing}
 
 -- the most bytes of a piece

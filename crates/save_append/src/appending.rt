@@ -7,7 +7,7 @@ ghost use Rattle.save_session.specs.Sessions.{IsOpen, find_session, of_session};
 ghost use Rattle.slot_changer.specs.Drives.{IsDrive};
 ghost use Rattle.slot_changer.specs.Taking.{takes};
 ghost use Rattle.room_effects.specs.View.{IsBetweenCommands, held_in};
-ghost use Rattle.room_plan.specs.Plans.{Plan, Follows};
+ghost use Rattle.room_effects.specs.Plans.{Plan, Follows};
 ghost use Rattle.room_placing.specs.Placing.{IsDriveFor};
 ghost use Rattle.save_append.specs.Appending.{IsAppendPlan, IsNewPlan, max_piece};
 

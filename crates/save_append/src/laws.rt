@@ -6,7 +6,7 @@ ghost use Rattle.save_session.specs.Sessions.{SessionView, find_session};
 ghost use Rattle.room_command.specs.declared.answer.Answer.TheVariants.{Next};
 ghost use Rattle.room_command.specs.declared.reply.Reply.TheVariants.{Done};
 ghost use Rattle.room_effects.specs.View.{RoomView};
-ghost use Rattle.room_plan.specs.Plans.{Plan, Do};
+ghost use Rattle.room_effects.specs.Plans.{Plan, Do};
 ghost use Rattle.save_append.specs.Appending.{IsAppendPlan, max_piece};
 
 /// A piece that ends no further than what was sent changes nothing, wherever it begins.

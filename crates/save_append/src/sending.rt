@@ -6,7 +6,7 @@ ghost use Rattle.save_session.specs.Sessions.{IsOpen, find_session, room_for};
 ghost use Rattle.slot_changer.specs.Drives.{IsDrive};
 ghost use Rattle.slot_changer.specs.Taking.{takes};
 ghost use Rattle.room_effects.specs.View.{IsBetweenCommands, held_in};
-ghost use Rattle.room_plan.specs.Plans.{Follows};
+ghost use Rattle.room_effects.specs.Plans.{Follows};
 ghost use Rattle.room_state.specs.Commits.{IsReadyForCommits};
 ghost use Rattle.save_append.specs.Appending.{bad_piece, max_piece, on_drive};
 

@@ -14,7 +14,7 @@ use Rattle.media_db.specs.declared.records.Record.{Record}
 use Rattle.media_db.specs.Rows.{find_record}
 use Rattle.catalog_change.specs.declared.change.Change.{Change}
 use Rattle.catalog_change.specs.declared.change.Change.TheVariants as changes
-use Rattle.snapshot_text.specs.Snapshots.{snapshot_text}
+use Rattle.catalog_spelling.specs.Snapshots.{snapshot_text}
 use Rattle.room_catalog.specs.Fits.{IsBegun}
 use Rattle.room_catalog.specs.Held.{catalogue_of}
 use Rattle.save_session.specs.Sessions.{SessionView, IsOpen, find_session, ssid_of}
@@ -26,7 +26,7 @@ use Rattle.room_effects.specs.Running.{Does}
 use Rattle.room_effects.proofs.Does.{does_then}
 use Rattle.room_effects.proofs.Sending.{does_close}
 use Rattle.room_entering.specs.Prepared.{IsPrepared}
-use Rattle.room_plan.specs.Entering.{is_at_ceiling, with_first_file}
+use Rattle.room_effects.specs.Entering.{is_at_ceiling, with_first_file}
 use Rattle.room_state.specs.Memory.{TakesMemory}
 use Rattle.room_between.specs.Middle.{HasRecord}
 use Rattle.room_between.specs.Quiet.{IsQuiet}

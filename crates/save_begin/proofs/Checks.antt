@@ -7,7 +7,7 @@ use Rattle.room_base.specs.declared.refusal.Refusal.{Refusal}
 use Rattle.room_base.specs.declared.refusal.Refusal.TheVariants.{Malformed, NoMemory, SessionsFull}
 use Rattle.catalog_change.specs.Resources.{IsSetName}
 use Rattle.room_effects.specs.View.{RoomView}
-use Rattle.room_plan.specs.Checked.{behind_check, unless}
+use Rattle.room_effects.specs.Checked.{behind_check, unless}
 use Rattle.save_begin.specs.declared.asked.Allowed.{Allowed}
 use Rattle.save_begin.specs.declared.asked.Asked.{Asked}
 use Rattle.save_begin.specs.Asking.{AnswersFor, AreAllowed, IsClientAsked, IsGroupAsked, Tells, begin_checks, busy_with, count_checks, field_checks, free_checks, is_level, level_check, level_checks, max_sessions, named_checks, none_busy, there_checks}

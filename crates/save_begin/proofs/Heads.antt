@@ -22,7 +22,7 @@ use Rattle.catalog_change.specs.declared.resource.Client.{Client}
 use Rattle.resource_lists.specs.Lists.{default_pool}
 use Rattle.room_catalog.specs.Invariant.{IsHeld}
 use Rattle.room_effects.specs.View.{RoomView}
-use Rattle.room_plan.specs.Entering.{is_at_ceiling}
+use Rattle.room_effects.specs.Entering.{is_at_ceiling}
 use Rattle.room_between.specs.Middle.{HasRecord}
 use Rattle.save_begin.specs.declared.asked.Asked.{Asked}
 use Rattle.save_begin.specs.Asking.{IsGroupAsked, client_of, policy_of}

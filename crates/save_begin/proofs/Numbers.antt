@@ -14,7 +14,7 @@ use Rattle.room_catalog.specs.Held.{CatalogueLists}
 use Rattle.room_catalog.specs.Invariant.{IsHeld}
 use Rattle.save_session.specs.Sessions.{SessionView, find_session, ssid_of}
 use Rattle.room_effects.specs.View.{IsRecordOf}
-use Rattle.room_plan.specs.Entering.{is_at_ceiling}
+use Rattle.room_effects.specs.Entering.{is_at_ceiling}
 use Rattle.room_between.specs.Middle.{HasRecord}
 
 pub below_is : (lists : CatalogueLists) → is_at_ceiling lists ≡ false → (lists.number < max_number) × (lists.next_ssid < max_number)

@@ -6,7 +6,7 @@ use Rattle.save_stream.specs.declared.head.SetHead.{SetHead}
 use Rattle.save_session.specs.Sessions.{SessionView, room_for}
 use Rattle.catalog_change.specs.declared.change.Change.{Change}
 use Rattle.catalog_change.specs.declared.change.Change.TheVariants as changes
-use Rattle.snapshot_reading.specs.Spelled.{IsText}
+use Rattle.catalog_spelling.specs.SpelledSnapshots.{IsText}
 use Rattle.room_catalog.specs.Fits.{Fits}
 use Rattle.room_catalog.specs.Held.{CatalogueLists, catalogue_of}
 use Rattle.room_catalog.specs.Ready.{KeepsRoom}
@@ -16,7 +16,7 @@ use Rattle.room_effects.specs.Memory.{HeldRoom, catalogue_in}
 use Rattle.room_effects.specs.Needs.{CanDo}
 use Rattle.room_effects.proofs.StayingSessions.{one_more}
 use Rattle.room_entering.specs.Prepared.{IsFirstFile, IsPrepared}
-use Rattle.room_plan.specs.Entering.{is_at_ceiling}
+use Rattle.room_effects.specs.Entering.{is_at_ceiling}
 use Rattle.room_state.specs.Memory.{KeepsMemory, TakesMemory}
 use Rattle.room_state.proofs.Prepared.{ready_kept}
 use Rattle.save_begin.specs.declared.entering.Begun.{Begun}

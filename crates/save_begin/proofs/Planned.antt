@@ -21,11 +21,11 @@ use Rattle.room_effects.specs.Needs.{CanDo}
 use Rattle.room_effects.specs.Running.{Does}
 use Rattle.room_effects.proofs.Does.{does_none, does_then}
 use Rattle.room_effects.proofs.Sending.{does_open}
-use Rattle.room_plan.specs.Checked.{ComesTo, checked}
-use Rattle.room_plan.specs.Entering.{ceiling, is_at_ceiling, with_first_file}
-use Rattle.room_plan.specs.Plans.{Plan, Refuse, Do, Follows}
-use Rattle.room_plan.proofs.Checking.{came_to, follows_checked, follows_checks}
-use Rattle.room_plan.proofs.Following.{follows_done, follows_no_memory, follows_refusal}
+use Rattle.room_effects.specs.Checked.{ComesTo, checked}
+use Rattle.room_effects.specs.Entering.{ceiling, is_at_ceiling, with_first_file}
+use Rattle.room_effects.specs.Plans.{Plan, Refuse, Do, Follows}
+use Rattle.room_effects.proofs.Checking.{came_to, follows_checked, follows_checks}
+use Rattle.room_effects.proofs.Following.{follows_done, follows_no_memory, follows_refusal}
 use Rattle.room_placing.specs.Placing.{IsDriveFor, placing}
 use Rattle.save_begin.specs.declared.asked.Allowed.{Allowed}
 use Rattle.save_begin.specs.declared.asked.Asked.{Asked}

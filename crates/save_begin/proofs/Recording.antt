@@ -23,7 +23,7 @@ use Rattle.room_effects.specs.Memory.{HeldRoom, RoomMemory}
 use Rattle.room_effects.specs.Running.{Does, RanTo}
 use Rattle.room_effects.proofs.Does.{does_append, does_stop}
 use Rattle.room_effects.proofs.Memory.{after_one}
-use Rattle.room_plan.specs.Entering.{with_first_file}
+use Rattle.room_effects.specs.Entering.{with_first_file}
 use Rattle.room_entering.proofs.Ceilings.{first_file_append}
 use Rattle.room_placing.specs.Placing.{placing}
 use Rattle.room_state.specs.Commits.{IsReadyForCommits}

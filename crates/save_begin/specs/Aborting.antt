@@ -11,9 +11,9 @@ use Rattle.room_command.specs.declared.reply.Reply.TheVariants.{Done}
 use Rattle.save_session.specs.Sessions.{find_session}
 use Rattle.room_effects.specs.View.{RoomView}
 use Rattle.room_effects.specs.Effects.{Close, Enter}
-use Rattle.room_plan.specs.Checked.{checked, unless}
-use Rattle.room_plan.specs.Entering.{ceiling, is_at_ceiling, with_first_file}
-use Rattle.room_plan.specs.Plans.{Plan, Do}
+use Rattle.room_effects.specs.Checked.{checked, unless}
+use Rattle.room_effects.specs.Entering.{ceiling, is_at_ceiling, with_first_file}
+use Rattle.room_effects.specs.Plans.{Plan, Do}
 
 -- its session is open, and a number is left for the change
 abbrev pub abort_checks : Ssid → RoomView → Result (Unit {0}) Refusal

@@ -36,7 +36,7 @@ use Rattle.resource_lists.specs.Kinds.{find_named}
 use Rattle.save_session.specs.Sessions.{SessionView, find_session}
 use Rattle.room_effects.specs.View.{RoomView}
 use Rattle.room_effects.specs.Faults.{ssids_of}
-use Rattle.room_plan.specs.Checked.{behind_check, unless}
+use Rattle.room_effects.specs.Checked.{behind_check, unless}
 use Rattle.save_begin.specs.declared.asked.Asked.{Asked}
 use Rattle.save_begin.specs.declared.asked.Allowed.{Allowed}
 

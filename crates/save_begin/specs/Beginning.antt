@@ -12,9 +12,9 @@ use Rattle.room_command.specs.declared.answer.Answer.TheVariants as answers
 use Rattle.room_command.specs.declared.reply.Reply.TheVariants.{Done}
 use Rattle.room_effects.specs.View.{RoomView}
 use Rattle.room_effects.specs.Effects.{Effect, Enter, Open}
-use Rattle.room_plan.specs.Checked.{checked}
-use Rattle.room_plan.specs.Entering.{ceiling, is_at_ceiling, with_first_file}
-use Rattle.room_plan.specs.Plans.{Plan, Refuse, Do}
+use Rattle.room_effects.specs.Checked.{checked}
+use Rattle.room_effects.specs.Entering.{ceiling, is_at_ceiling, with_first_file}
+use Rattle.room_effects.specs.Plans.{Plan, Refuse, Do}
 use Rattle.room_placing.specs.Placing.{IsDriveFor, placing}
 use Rattle.save_begin.specs.declared.asked.Allowed.{Allowed}
 use Rattle.save_begin.specs.declared.asked.Asked.{Asked}

@@ -10,7 +10,7 @@ use Rattle.slot_changer.specs.Drives.{IsDrive}
 use Rattle.slot_changer.specs.Taking.{takes}
 use Rattle.save_session.specs.Sessions.{find_session}
 use Rattle.room_effects.specs.View.{RoomView, held_in}
-use Rattle.room_plan.specs.Entering.{is_at_ceiling}
+use Rattle.room_effects.specs.Entering.{is_at_ceiling}
 use Rattle.save_begin.specs.Asking.{IsGroupAsked}
 use Rattle.save_begin.specs.declared.asked.Asked.{Asked}
 use Rattle.save_begin.specs.declared.choosing.Chosen.{Chosen}

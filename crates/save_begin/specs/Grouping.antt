@@ -8,7 +8,7 @@ use Rattle.sched_levels.specs.Plans.{IsPlan}
 use Rattle.room_command.specs.declared.answer.Answer.TheVariants as answers
 use Rattle.room_command.specs.declared.reply.Reply.TheVariants.{Done}
 use Rattle.room_effects.specs.View.{RoomView}
-use Rattle.room_plan.specs.Plans.{Plan, Refuse, Do}
+use Rattle.room_effects.specs.Plans.{Plan, Refuse, Do}
 use Rattle.save_begin.specs.Asking.{group_action, group_of}
 
 -- what is planned is answered; it isn't known where there is no memory for it

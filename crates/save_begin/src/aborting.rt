@@ -5,8 +5,8 @@ ghost use Rattle.room_base.specs.Numbers.{max_moment};
 ghost use Rattle.catalog_change.specs.declared.change.Change.TheVariants.{Aborted};
 ghost use Rattle.room_effects.specs.View.{IsBetweenCommands};
 ghost use Rattle.save_session.specs.Sessions.{IsOpen};
-ghost use Rattle.room_plan.specs.Entering.{is_at_ceiling};
-ghost use Rattle.room_plan.specs.Plans.{Follows};
+ghost use Rattle.room_effects.specs.Entering.{is_at_ceiling};
+ghost use Rattle.room_effects.specs.Plans.{Follows};
 ghost use Rattle.room_entering.specs.Prepared.{IsPrepared};
 ghost use Rattle.save_begin.specs.Aborting.{abort_checks, abort_plan, giving_up};
 

@@ -3,8 +3,8 @@
 ghost use Rattle.std.specs.Prelude.{◌≡◌, ◌≤◌, ◌<◌, false, length, IsTrue};
 ghost use Rattle.room_base.specs.Numbers.{max_moment};
 ghost use Rattle.room_effects.specs.View.{IsBetweenCommands};
-ghost use Rattle.room_plan.specs.Entering.{is_at_ceiling};
-ghost use Rattle.room_plan.specs.Plans.{Plan, Follows};
+ghost use Rattle.room_effects.specs.Entering.{is_at_ceiling};
+ghost use Rattle.room_effects.specs.Plans.{Plan, Follows};
 ghost use Rattle.room_entering.specs.Prepared.{IsPrepared};
 ghost use Rattle.save_begin.specs.Beginning.{IsBeginPlan, IsLevelPlan, begin_plan, begun_answer};
 ghost use Rattle.save_begin.specs.Beginning.{chosen_plan};

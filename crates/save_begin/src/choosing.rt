@@ -5,7 +5,7 @@ ghost use Rattle.room_base.specs.declared.refusal.Refusal.TheVariants.{NeedVolum
 ghost use Rattle.save_stream.specs.Heads.{head_of_parts};
 ghost use Rattle.save_stream.specs.Spelling.{head_text};
 ghost use Rattle.save_stream.specs.declared.head.SetHead.{SetHead};
-ghost use Rattle.room_plan.specs.Checked.{ComesTo};
+ghost use Rattle.room_effects.specs.Checked.{ComesTo};
 ghost use Rattle.room_placing.specs.Placing.{IsDriveFor};
 ghost use Rattle.save_begin.specs.Beginning.{drive_check};
 ghost use Rattle.save_begin.specs.Fitting.{GoesTo, MayBegin};

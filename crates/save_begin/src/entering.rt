@@ -8,7 +8,7 @@ ghost use Rattle.room_effects.specs.View.{IsBetweenCommands};
 ghost use Rattle.room_effects.specs.Effects.{Enter};
 ghost use Rattle.room_effects.specs.Needs.{IsFitting, IsWholeChange};
 ghost use Rattle.room_effects.specs.Running.{Does};
-ghost use Rattle.room_plan.specs.Entering.{with_first_file};
+ghost use Rattle.room_effects.specs.Entering.{with_first_file};
 ghost use Rattle.room_entering.specs.Prepared.{IsPrepared};
 ghost use Rattle.room_placing.specs.Placing.{placing};
 ghost use Rattle.save_begin.specs.Beginning.{begun_answer};

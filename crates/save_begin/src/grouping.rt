@@ -2,7 +2,7 @@
 
 ghost use Rattle.std.specs.Prelude.{◌≡◌, ◌≤◌, IfOk, IfSome, MatchOption, None, Some};
 ghost use Rattle.room_base.specs.Numbers.{max_moment};
-ghost use Rattle.room_plan.specs.Plans.{Plan, Follows};
+ghost use Rattle.room_effects.specs.Plans.{Plan, Follows};
 ghost use Rattle.sched_levels.specs.Actions.{DecidesEachDay, action_on};
 ghost use Rattle.sched_levels.specs.Plans.{IsPlan};
 ghost use Rattle.save_begin.specs.Asking.{day_of, group_of, schedule_of};

@@ -23,7 +23,7 @@ use Rattle.room_effects.specs.View.{RoomView, IsBetweenCommands, IsRoom}
 use Rattle.room_effects.specs.Effects.{Close, Enter, after_done, entry_bytes}
 use Rattle.room_effects.specs.Memory.{HasMemoryFor, HeldRoom, RoomMemory}
 use Rattle.room_effects.specs.Needs.{CanDo, CanEnter}
-use Rattle.room_plan.specs.Entering.{is_at_ceiling}
+use Rattle.room_effects.specs.Entering.{is_at_ceiling}
 use Rattle.room_state.specs.Memory.{TakesMemory}
 use Rattle.room_between.proofs.Quieting.{between_entered}
 use Rattle.room_between.proofs.Stepping.{but_any, closed_one}

@@ -9,8 +9,8 @@ use Rattle.room_base.specs.declared.numbers.Ssid.{Ssid}
 use Rattle.save_stream.specs.declared.entry.IndexEntry.{IndexEntry}
 use Rattle.media_db.specs.declared.copies.Section.{Section}
 use Rattle.catalog_change.specs.declared.change.Change.TheVariants.{Finished, FinishedParts, IndexPart}
-use Rattle.catalog_text.specs.Changes.{change_text}
-use Rattle.catalog_text.specs.Entries.{entry_text}
+use Rattle.catalog_spelling.specs.Changes.{change_text}
+use Rattle.catalog_spelling.specs.Entries.{entry_text}
 use Rattle.catalog_text.proofs.ChangeLengths.{length-finished, length-index_part, length_change, length_stream}
 use Rattle.save_session.specs.Sessions.{SessionView}
 use Rattle.room_effects.specs.Effects.{entry_bytes, part_bytes}

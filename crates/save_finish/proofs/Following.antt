@@ -9,7 +9,7 @@ use Rattle.room_disk.specs.Disk.{DiskView}
 use Rattle.catalog_change.specs.Changes.{max_part}
 use Rattle.cat_journal.specs.Journal.{JournalView, form_of}
 use Rattle.cat_journal.specs.declared.current.CurrentFile.{CurrentFile}
-use Rattle.snapshot_text.specs.Snapshots.{snapshot_text}
+use Rattle.catalog_spelling.specs.Snapshots.{snapshot_text}
 use Rattle.room_catalog.specs.Held.{CatalogueLists, catalogue_of}
 use Rattle.save_session.specs.Sessions.{SessionView, find_session}
 use Rattle.room_effects.specs.View.{RoomView}

@@ -15,11 +15,11 @@ use Rattle.room_command.specs.declared.reply.Reply.TheVariants.{Done, Refused}
 use Rattle.room_effects.specs.View.{RoomView}
 use Rattle.room_effects.specs.Running.{Does}
 use Rattle.room_effects.proofs.Does.{does_none}
-use Rattle.room_plan.specs.Checked.{checked}
-use Rattle.room_plan.specs.Entering.{ceiling, is_at_ceiling}
-use Rattle.room_plan.specs.Plans.{Plan, Do, Refuse, Follows}
-use Rattle.room_plan.proofs.Checking.{follows_checked, follows_checks}
-use Rattle.room_plan.proofs.Following.{follows_done, follows_fault, follows_no_memory, follows_refusal}
+use Rattle.room_effects.specs.Checked.{checked}
+use Rattle.room_effects.specs.Entering.{ceiling, is_at_ceiling}
+use Rattle.room_effects.specs.Plans.{Plan, Do, Refuse, Follows}
+use Rattle.room_effects.proofs.Checking.{follows_checked, follows_checks}
+use Rattle.room_effects.proofs.Following.{follows_done, follows_fault, follows_no_memory, follows_refusal}
 use Rattle.save_finish.specs.Ending.{ending}
 use Rattle.save_finish.specs.Finishing.{ending_plan, finished, finished_again, plan_for, session_checks, session_plan}
 

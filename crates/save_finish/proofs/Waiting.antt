@@ -14,8 +14,8 @@ use Rattle.media_db.specs.Rows.{find_record}
 use Rattle.media_db.specs.declared.records.Record.{Record}
 use Rattle.catalog_change.specs.Changes.{max_part}
 use Rattle.catalog_change.specs.declared.change.Change.TheVariants.{IndexPart}
-use Rattle.snapshot_reading.specs.Spelled.{IsText}
-use Rattle.snapshot_text.specs.Snapshots.{snapshot_text}
+use Rattle.catalog_spelling.specs.SpelledSnapshots.{IsText}
+use Rattle.catalog_spelling.specs.Snapshots.{snapshot_text}
 use Rattle.room_catalog.specs.Applying.{with_part}
 use Rattle.room_catalog.specs.Fits.{FitsParts, FollowsParts, IsBegun, IsFinishable}
 use Rattle.room_catalog.specs.Held.{CatalogueLists, Parts, catalogue_of}

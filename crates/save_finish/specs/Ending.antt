@@ -9,7 +9,7 @@ use Rattle.cat_journal.specs.Journal.{form_of}
 use Rattle.catalog_change.specs.Changes.{max_part}
 use Rattle.catalog_change.specs.declared.change.Change.{Change}
 use Rattle.catalog_change.specs.declared.change.Change.TheVariants.{Finished, FinishedParts}
-use Rattle.snapshot_text.specs.Snapshots.{snapshot_text}
+use Rattle.catalog_spelling.specs.Snapshots.{snapshot_text}
 use Rattle.room_catalog.specs.Held.{catalogue_of}
 use Rattle.slot_changer.specs.Drives.{holds_set}
 use Rattle.save_session.specs.Sessions.{SessionView}

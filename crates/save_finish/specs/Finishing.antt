@@ -25,9 +25,9 @@ use Rattle.room_command.specs.declared.answer.Answer.TheVariants.{Finished}
 use Rattle.room_command.specs.declared.reply.Reply.{Reply}
 use Rattle.room_command.specs.declared.reply.Reply.TheVariants.{Done}
 use Rattle.room_effects.specs.View.{RoomView}
-use Rattle.room_plan.specs.Checked.{behind_check, checked, unless}
-use Rattle.room_plan.specs.Entering.{ceiling, is_at_ceiling}
-use Rattle.room_plan.specs.Plans.{Plan, Do, Refuse}
+use Rattle.room_effects.specs.Checked.{behind_check, checked, unless}
+use Rattle.room_effects.specs.Entering.{ceiling, is_at_ceiling}
+use Rattle.room_effects.specs.Plans.{Plan, Do, Refuse}
 use Rattle.save_finish.specs.Ending.{ending}
 
 -- ---- what is compared

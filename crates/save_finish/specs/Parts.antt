@@ -12,7 +12,7 @@ use Rattle.catalog_change.specs.Catalogues.{max_number}
 use Rattle.catalog_change.specs.Changes.{AreEntries, AreSections, max_part}
 use Rattle.catalog_change.specs.declared.change.Change.{Change}
 use Rattle.catalog_change.specs.declared.change.Change.TheVariants.{FinishedParts}
-use Rattle.snapshot_reading.specs.Spelled.{IsText}
+use Rattle.catalog_spelling.specs.SpelledSnapshots.{IsText}
 use Rattle.room_catalog.specs.Fits.{IsFinishable}
 use Rattle.room_catalog.specs.Held.{Parts, catalogue_of}
 use Rattle.save_session.specs.Sessions.{SessionView, find_session}

@@ -7,7 +7,7 @@ use Rattle.save_session.specs.Sessions.{SessionView, find_session}
 use Rattle.room_effects.specs.View.{RoomView, IsBetweenCommands, held_in}
 use Rattle.room_effects.specs.Effects.{entry_bytes}
 use Rattle.room_effects.specs.Memory.{HeldRoom}
-use Rattle.room_plan.specs.Entering.{is_at_ceiling}
+use Rattle.room_effects.specs.Entering.{is_at_ceiling}
 use Rattle.room_state.specs.Commits.{IsReadyForCommits}
 use Rattle.save_finish.specs.Ended.{HasEnded}
 use Rattle.save_finish.specs.Ending.{finished_whole}

@@ -4,7 +4,7 @@ ghost use Rattle.std.specs.Prelude.{◌≡◌, ◌≤◌, IfSome, IsSomeAnd, IsT
 ghost use Rattle.room_base.specs.Numbers.{max_moment};
 ghost use Rattle.save_session.specs.Sessions.{IsOpen, find_session};
 ghost use Rattle.room_effects.specs.View.{IsBetweenCommands};
-ghost use Rattle.room_plan.specs.Plans.{Do, Follows};
+ghost use Rattle.room_effects.specs.Plans.{Do, Follows};
 ghost use Rattle.save_finish.specs.Ending.{ending};
 ghost use Rattle.save_finish.specs.Finishing.{ending_plan, finish_plan, finished, session_plan};
 ghost use Rattle.save_finish.specs.Ended.{HasEnded};

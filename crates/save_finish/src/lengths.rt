@@ -4,7 +4,7 @@ ghost use Rattle.std.specs.Prelude.{◌≡◌, ◌<◌, ◌≤◌, ◌^◌, ℕ,
 ghost use Rattle.std.specs.List.{flat_map};
 ghost use Rattle.room_base.specs.declared.numbers.Moment.{Moment};
 ghost use Rattle.catalog_change.specs.Changes.{AreEntries};
-ghost use Rattle.catalog_text.specs.Entries.{entry_text};
+ghost use Rattle.catalog_spelling.specs.Entries.{entry_text};
 ghost use Rattle.save_session.specs.Sessions.{find_session};
 ghost use Rattle.room_effects.specs.Effects.{entry_bytes, part_bytes};
 ghost use Rattle.save_finish.specs.Ending.{finished_parts, finished_whole, part_count, part_of};

@@ -37,6 +37,6 @@ pub(crate) fn second_snapshot(room: &RoomState) -> Result<Option<Items<u8>>, Mem
     if room.journal_form() != 1 {
         return Ok(None);
     }
-    let snapshot = room.catalogue().snapshot(room.allocator(), true)?;
+    let snapshot = catalog_snapshot::snapshot(room.catalogue(), room.allocator(), true)?;
     Ok(Some(Items::of(snapshot)))
 }

@@ -6,7 +6,7 @@ ghost use Rattle.save_session.specs.Sessions.{find_session};
 ghost use Rattle.room_effects.specs.View.{IsBetweenCommands};
 ghost use Rattle.room_effects.specs.Effects.{Close};
 ghost use Rattle.room_effects.specs.Running.{Does};
-ghost use Rattle.room_plan.specs.Plans.{Do, Follows};
+ghost use Rattle.room_effects.specs.Plans.{Do, Follows};
 ghost use Rattle.room_state.specs.Commits.{IsReadyForCommits};
 ghost use Rattle.save_finish.specs.Ending.{ending, entering_parts};
 ghost use Rattle.save_finish.specs.Finishing.{finished};

@@ -9,7 +9,7 @@ ghost use Rattle.save_session.specs.Sessions.{find_session};
 ghost use Rattle.room_effects.specs.View.{IsBetweenCommands};
 ghost use Rattle.room_effects.specs.Effects.{Close, Enter};
 ghost use Rattle.room_effects.specs.Running.{Does};
-ghost use Rattle.room_plan.specs.Plans.{Do, Follows};
+ghost use Rattle.room_effects.specs.Plans.{Do, Follows};
 ghost use Rattle.save_finish.specs.Ending.{ending, finished_whole};
 ghost use Rattle.save_finish.specs.Finishing.{finished};
 ghost use Rattle.save_finish.specs.Ended.{HasEnded, HasFew, IsStreamOf};

@@ -1,10 +1,10 @@
 -- Reading resources one after the other, as a loop does.
 use Rattle.std.proofs.Common.{◌≡◌, ℕ, suc, ◌-◌, ◌+◌, ◌≤◌, ◌<◌, List, Ok, Err, refl, sym, ◌∙◌, arith}
-use Rattle.catalog_text.specs.declared.fault.FieldFault.{FieldFault}
-use Rattle.catalog_text.specs.declared.fault.FieldFault.TheVariants as faults
-use Rattle.catalog_text.specs.Reading.{Part, ◌>>=◌, Fails}
-use Rattle.snapshot_text.specs.declared.fields.ResourceLists.{ResourceLists}
-use Rattle.snapshot_text.specs.Resources.{more_at, next_at}
+use Rattle.catalog_spelling.specs.declared.fault.FieldFault.{FieldFault}
+use Rattle.catalog_spelling.specs.declared.fault.FieldFault.TheVariants as faults
+use Rattle.catalog_spelling.specs.Reading.{Part, ◌>>=◌, Fails}
+use Rattle.catalog_spelling.specs.declared.snapshot_fields.ResourceLists.{ResourceLists}
+use Rattle.catalog_spelling.specs.SnapshotResources.{more_at, next_at}
 
 one-more : (count i : ℕ) (lists : ResourceLists) (bytes : List ℕ) → i < count
     → more_at (count - i) lists bytes ≡ (next_at lists bytes >>= λ more. more_at (count - (i + 1)) more.0 more.1)

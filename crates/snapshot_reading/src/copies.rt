@@ -1,12 +1,12 @@
 //! Copies of save sets as bytes.
 
 ghost use Rattle.std.specs.Prelude.{◌≡◌, ◌≤◌, ℕ, List};
-ghost use Rattle.catalog_text.specs.Reading.{Gives};
-ghost use Rattle.catalog_text.specs.Fields.{coded};
+ghost use Rattle.catalog_spelling.specs.Reading.{Gives};
+ghost use Rattle.catalog_spelling.specs.Fields.{coded};
 ghost use Rattle.catalog_change.specs.Catalogues.{max_copy};
 ghost use Rattle.media_db.specs.Edits.{copy_no, has_done, is_done};
-ghost use Rattle.snapshot_text.specs.Media.{copies_at, copy_at, copy_kinds, copy_sections_at};
-ghost use Rattle.snapshot_text.specs.Media.{fits_state, is_first_begun, is_next_drawn};
+ghost use Rattle.catalog_spelling.specs.Media.{copies_at, copy_at, copy_kinds, copy_sections_at};
+ghost use Rattle.catalog_spelling.specs.Media.{fits_state, is_first_begun, is_next_drawn};
 
 use crate::item::{ReadItem, read_items};
 use catalog_text::{FieldFault, Sections, allow, known, read_list_u32, read_u8, read_u32};
@@ -38,7 +38,7 @@ impl ReadItem for CopyReader {
 }
 
 /// The copies of a record of this state.
-#[tactic(auto, unfolding(catalog_text::specs::Lists::list_at, snapshot_text::specs::Media::copies_at, catalog_text::specs::Fields::byte_within_at))]
+#[tactic(auto, unfolding(catalog_spelling::specs::Lists::list_at, catalog_spelling::specs::Media::copies_at, catalog_spelling::specs::Fields::byte_within_at))]
 pub(crate) fn read_copies(
     alloc: Global,
     state: RecordState,
@@ -88,7 +88,7 @@ fn is_done(copy: &SetCopy) -> bool
     }
 }
 
-#[tactic(auto, unfolding(snapshot_text::specs::Media::copy_at, catalog_text::specs::Fields::code_at))]
+#[tactic(auto, unfolding(catalog_spelling::specs::Media::copy_at, catalog_spelling::specs::Fields::code_at))]
 fn read_copy<'a>(
     alloc: Global,
     next_copy: u32,
@@ -132,7 +132,7 @@ fn state_of(byte: u8) -> Option<CopyState>
 }
 
 // A copy that is begun has none.
-#[tactic(auto, unfolding(snapshot_text::specs::Media::copy_sections_at))]
+#[tactic(auto, unfolding(catalog_spelling::specs::Media::copy_sections_at))]
 fn read_sections(
     alloc: Global,
     state: CopyState,

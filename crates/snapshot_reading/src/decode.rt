@@ -1,19 +1,19 @@
 //! Reads snapshots.
 
 ghost use Rattle.std.specs.Prelude.{◌≡◌, ◌-◌, [], map, length, IfOk};
-ghost use Rattle.catalog_text.specs.declared.fault.DecodeFault.TheVariants as faults;
+ghost use Rattle.catalog_spelling.specs.declared.fault.DecodeFault.TheVariants as faults;
 ghost use Rattle.media_db.specs.Rows.{AreVolumes};
-ghost use Rattle.snapshot_text.specs.Decoding.{AreMade, Decodes};
-ghost use Rattle.snapshot_reading.specs.Spelled.{IsSpelled};
+ghost use Rattle.catalog_spelling.specs.SnapshotDecoding.{AreMade, Decodes};
+ghost use Rattle.catalog_spelling.specs.SpelledSnapshots.{IsSpelled};
 ghost use Rattle.snapshot_reading.specs.Whole.{ReadsWhole};
-ghost use Rattle.snapshot_text.specs.Storing.{AreListed, AreStored, set_of};
+ghost use Rattle.catalog_spelling.specs.Storing.{AreListed, AreStored, set_of};
 
 use crate::reading::read_fields;
+use catalog_spelling::{ListedRecord, Snapshot, SnapshotFields};
 use catalog_text::{DecodeFault, FieldFault};
 use client_index::ClientIndex;
 use media_db::{MediaDb, VolumeRec};
 use room_base::Memory;
-use snapshot_text::{ListedRecord, Snapshot, SnapshotFields};
 use std::alloc::Global;
 
 /// Reads a snapshot from all of the bytes.

@@ -1,24 +1,24 @@
 //! Heads of streams, as records have them.
 
 ghost use Rattle.std.specs.Prelude.{◌≡◌, SomeIff, IsTrue};
-ghost use Rattle.catalog_text.specs.Reading.{Gives};
+ghost use Rattle.catalog_spelling.specs.Reading.{Gives};
 ghost use Rattle.catalog_change.specs.Catalogues.{max_number};
 ghost use Rattle.save_stream.specs.Reading.{is_level};
-ghost use Rattle.snapshot_text.specs.Heads.{head_if_at};
-ghost use Rattle.snapshot_text.specs.Media.{is_next_drawn};
-ghost use Rattle.snapshot_text.specs.Records.{listed_ssid};
+ghost use Rattle.catalog_spelling.specs.SnapshotHeads.{head_if_at};
+ghost use Rattle.catalog_spelling.specs.Media.{is_next_drawn};
+ghost use Rattle.catalog_spelling.specs.Records.{listed_ssid};
 
 use crate::reading::MAX_NUMBER;
+use catalog_spelling::ListedRecord;
 use catalog_text::{
     FieldFault, allow, known, read_moment, read_name, read_text, read_u8, read_u64, read_u64_within,
 };
 use room_base::{MAX_MOMENT, Moment, Name, Ssid};
 use save_stream::{Level, SetHead};
-use snapshot_text::ListedRecord;
 use std::alloc::Global;
 
 /// The head of a stream whose ssid may stand behind those of these records.
-#[tactic(auto, unfolding(snapshot_text::specs::Heads::head_if_at))]
+#[tactic(auto, unfolding(catalog_spelling::specs::SnapshotHeads::head_if_at))]
 pub(crate) fn read_head<'a>(
     alloc: Global,
     next_ssid: u64,

@@ -1,8 +1,8 @@
 //! Lists whose items are read by a reader that knows what stands before the list.
 
 ghost use Rattle.std.specs.Prelude.{◌≡◌, ◌≤◌, ◌<◌, ◌+◌, List, ℕ, []};
-ghost use Rattle.catalog_text.specs.Reading.{Gives, Part};
-ghost use Rattle.catalog_text.specs.Lists.{items_at};
+ghost use Rattle.catalog_spelling.specs.Reading.{Gives, Part};
+ghost use Rattle.catalog_spelling.specs.Lists.{items_at};
 
 use catalog_text::FieldFault;
 use room_base::Items;

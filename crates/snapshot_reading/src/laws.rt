@@ -3,14 +3,14 @@
 ghost use Rattle.std.specs.Prelude.{◌≡◌, ◌⊎◌, ℕ, Bool, List, Result, Ok, Err};
 ghost use Rattle.save_stream.specs.Standing.{AreBytes};
 ghost use Rattle.catalog_change.specs.Catalogues.{Catalogue, IsCatalogue};
-ghost use Rattle.catalog_text.specs.declared.fault.DecodeFault.{DecodeFault};
-ghost use Rattle.catalog_text.specs.declared.fault.DecodeFault.TheVariants as faults;
-ghost use Rattle.catalog_text.specs.Decoding.{HasBad};
-ghost use Rattle.snapshot_text.specs.declared.parts.Snapshot.{Snapshot};
-ghost use Rattle.snapshot_text.specs.Decoding.{Decodes};
-ghost use Rattle.snapshot_text.specs.Snapshots.{catalogue_read, kept_in, snapshot_at, snapshot_text};
-ghost use Rattle.snapshot_text.specs.Fits.{FitsCatalogue};
-ghost use Rattle.snapshot_reading.specs.Spelled.{IsReadBack, IsText};
+ghost use Rattle.catalog_spelling.specs.declared.fault.DecodeFault.{DecodeFault};
+ghost use Rattle.catalog_spelling.specs.declared.fault.DecodeFault.TheVariants as faults;
+ghost use Rattle.catalog_spelling.specs.Decoding.{HasBad};
+ghost use Rattle.catalog_spelling.specs.declared.parts.Snapshot.{Snapshot};
+ghost use Rattle.catalog_spelling.specs.SnapshotDecoding.{Decodes};
+ghost use Rattle.catalog_spelling.specs.Snapshots.{catalogue_read, kept_in, snapshot_at, snapshot_text};
+ghost use Rattle.catalog_spelling.specs.Fits.{FitsCatalogue};
+ghost use Rattle.catalog_spelling.specs.SpelledSnapshots.{IsReadBack, IsText};
 
 /// The spelling of an allowed catalogue, with its indexes or without, is read to that catalogue,
 /// unless memory runs out.

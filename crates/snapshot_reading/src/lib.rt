@@ -1,6 +1,6 @@
-//! Reads snapshots of the room's catalogue, which the crate `snapshot_text` writes and defines. A text
-//! has one first field that isn't allowed, or is the one spelling of a catalogue that is allowed.
-//! docs/formats.md has the bytes.
+//! Reads snapshots of the room's catalogue, which the crate `snapshot_text` writes and
+//! `catalog_spelling` defines. A text has one first field that isn't allowed, or is the one spelling
+//! of a catalogue that is allowed. docs/formats.md has the bytes.
 #![tactic(auto)]
 
 mod copies;

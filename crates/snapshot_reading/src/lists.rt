@@ -1,19 +1,19 @@
 //! The resources of a catalogue: all kinds in one list.
 
 ghost use Rattle.std.specs.Prelude.{◌≡◌, IfOk};
-ghost use Rattle.catalog_text.specs.Reading.{Gives};
-ghost use Rattle.snapshot_text.specs.Lists.{AreInOrder};
-ghost use Rattle.snapshot_text.specs.Resources.{can_follow, has_lasting, lists_at, more_at};
-ghost use Rattle.snapshot_text.specs.Resources.{next_at, no_resources};
-ghost use Rattle.snapshot_text.specs.Resources.{with_policy_at, with_pool_at, with_client_at};
-ghost use Rattle.snapshot_text.specs.Resources.{with_schedule_at, with_group_at};
+ghost use Rattle.catalog_spelling.specs.Reading.{Gives};
+ghost use Rattle.catalog_spelling.specs.SnapshotOrder.{AreInOrder};
+ghost use Rattle.catalog_spelling.specs.SnapshotResources.{can_follow, has_lasting, lists_at, more_at};
+ghost use Rattle.catalog_spelling.specs.SnapshotResources.{next_at, no_resources};
+ghost use Rattle.catalog_spelling.specs.SnapshotResources.{with_policy_at, with_pool_at, with_client_at};
+ghost use Rattle.catalog_spelling.specs.SnapshotResources.{with_schedule_at, with_group_at};
 
 use crate::names::is_there;
 use crate::resource_reading::{read_client, read_group, read_policy, read_pool, read_schedule};
+use catalog_spelling::ResourceLists;
 use catalog_text::{FieldFault, allow, read_u8, read_u32_within};
 use room_base::Items;
 use room_rules::DEFAULT_POOL;
-use snapshot_text::ResourceLists;
 use std::alloc::Global;
 
 // The client of the room's own saves.
@@ -60,7 +60,7 @@ pub(crate) fn has_lasting(lists: &ResourceLists) -> bool
 }
 
 /// A list of resources behind four bytes of count.
-#[tactic(auto, unfolding(snapshot_text::specs::Resources::lists_at))]
+#[tactic(auto, unfolding(catalog_spelling::specs::SnapshotResources::lists_at))]
 pub(crate) fn read_lists(alloc: Global, bytes: &[u8]) -> Result<(ResourceLists, &[u8]), FieldFault>
     ensures read { Gives (λ x. (x.0, x.1.now)) result (lists_at bytes.now) }
     ensures order { IfOk result (λ x. AreInOrder x.0) }
@@ -85,7 +85,7 @@ fn read_more(alloc: Global, count: u32, bytes: &[u8]) -> Result<(ResourceLists, 
 }
 
 // One more resource, behind the byte of its kind.
-#[tactic(auto, unfolding(snapshot_text::specs::Resources::next_at))]
+#[tactic(auto, unfolding(catalog_spelling::specs::SnapshotResources::next_at))]
 fn read_next(
     alloc: Global,
     lists: ResourceLists,
@@ -109,7 +109,7 @@ fn read_next(
     }
 }
 
-#[tactic(auto, using(crate::proofs::Ordered::ascends_push), unfolding(snapshot_text::specs::Resources::with_policy_at))]
+#[tactic(auto, using(snapshot_laws::proofs::Ordered::ascends_push), unfolding(catalog_spelling::specs::SnapshotResources::with_policy_at))]
 fn with_policy(
     alloc: Global,
     lists: ResourceLists,
@@ -129,7 +129,7 @@ fn with_policy(
     Ok((lists, rest))
 }
 
-#[tactic(auto, using(crate::proofs::Ordered::ascends_push), unfolding(snapshot_text::specs::Resources::with_pool_at))]
+#[tactic(auto, using(snapshot_laws::proofs::Ordered::ascends_push), unfolding(catalog_spelling::specs::SnapshotResources::with_pool_at))]
 fn with_pool(
     alloc: Global,
     lists: ResourceLists,
@@ -149,7 +149,7 @@ fn with_pool(
     Ok((lists, rest))
 }
 
-#[tactic(auto, using(crate::proofs::Ordered::ascends_push), unfolding(snapshot_text::specs::Resources::with_client_at))]
+#[tactic(auto, using(snapshot_laws::proofs::Ordered::ascends_push), unfolding(catalog_spelling::specs::SnapshotResources::with_client_at))]
 fn with_client(
     alloc: Global,
     lists: ResourceLists,
@@ -174,7 +174,7 @@ fn with_client(
     Ok((lists, rest))
 }
 
-#[tactic(auto, using(crate::proofs::Ordered::ascends_push), unfolding(snapshot_text::specs::Resources::with_schedule_at))]
+#[tactic(auto, using(snapshot_laws::proofs::Ordered::ascends_push), unfolding(catalog_spelling::specs::SnapshotResources::with_schedule_at))]
 fn with_schedule(
     alloc: Global,
     lists: ResourceLists,
@@ -194,7 +194,7 @@ fn with_schedule(
     Ok((lists, rest))
 }
 
-#[tactic(auto, using(crate::proofs::Ordered::ascends_push), unfolding(snapshot_text::specs::Resources::with_group_at))]
+#[tactic(auto, using(snapshot_laws::proofs::Ordered::ascends_push), unfolding(catalog_spelling::specs::SnapshotResources::with_group_at))]
 fn with_group(
     alloc: Global,
     lists: ResourceLists,

@@ -4,8 +4,8 @@ ghost use Rattle.std.specs.Prelude.{◌≡◌, List, ℕ, true, IfOk};
 ghost use Rattle.std.specs.Ordering.{nat_cmp};
 ghost use Rattle.std.specs.Cmp.Lexicographic.{slice_cmp};
 ghost use Rattle.room_base.specs.Ordered.{Ascends, IsPlace};
-ghost use Rattle.catalog_text.specs.Reading.{Gives};
-ghost use Rattle.snapshot_text.specs.Names.{AllowsName, is_next_name, is_there, name_if_at};
+ghost use Rattle.catalog_spelling.specs.Reading.{Gives};
+ghost use Rattle.catalog_spelling.specs.Names.{AllowsName, is_next_name, is_there, name_if_at};
 
 use catalog_change::Client;
 use catalog_text::{FieldFault, read_name};
@@ -115,7 +115,7 @@ pub(crate) fn allow_name(allowed: bool, bytes: &[u8]) -> Result<(), FieldFault>
 }
 
 /// A name that stands above that of the last of these items.
-#[tactic(auto, unfolding(snapshot_text::specs::Names::name_if_at))]
+#[tactic(auto, unfolding(catalog_spelling::specs::Names::name_if_at))]
 pub(crate) fn read_next_name<'a, T: Named>(
     alloc: Global,
     before: &[T],
@@ -131,7 +131,7 @@ pub(crate) fn read_next_name<'a, T: Named>(
 }
 
 /// A name that one of these items has.
-#[tactic(auto, unfolding(snapshot_text::specs::Names::name_if_at))]
+#[tactic(auto, unfolding(catalog_spelling::specs::Names::name_if_at))]
 pub(crate) fn read_known_name<'a, T: Named>(
     alloc: Global,
     items: &[T],

@@ -1,24 +1,30 @@
 //! Reads the fields of a snapshot.
 
 ghost use Rattle.std.specs.Prelude.{◌≡◌, IfOk};
-ghost use Rattle.catalog_text.specs.Reading.{Gives};
-ghost use Rattle.snapshot_text.specs.Snapshots.{snapshot_at};
-ghost use Rattle.snapshot_text.specs.Storing.{AreStored};
+ghost use Rattle.catalog_spelling.specs.Reading.{Gives};
+ghost use Rattle.catalog_spelling.specs.Snapshots.{snapshot_at};
+ghost use Rattle.catalog_spelling.specs.Storing.{AreStored};
 
 use crate::lists::{has_lasting, read_lists};
 use crate::records::read_listed_records;
 use crate::slots::read_slots;
 use crate::volumes::read_listed_volumes;
+use catalog_spelling::SnapshotFields;
 use catalog_text::{FieldFault, allow, read_moment, read_u8, read_u64_within};
 use room_base::{Ssid, Volid};
-use snapshot_text::{FORM, SNAPSHOT_KIND, SnapshotFields};
 use std::alloc::Global;
+
+/// The byte that a snapshot begins with, and the form of snapshots, which follows: those that are
+/// written, as `snapshot_at` and `front_text` say.
+const SNAPSHOT_KIND: u8 = b'B';
+
+const FORM: u8 = 1;
 
 /// The greatest number of a change, of the next save set and of the next volume.
 pub(crate) const MAX_NUMBER: u64 = 9_223_372_036_854_775_807;
 
 /// The fields of a snapshot at the front of bytes.
-#[tactic(auto, unfolding(snapshot_text::specs::Snapshots::snapshot_at))]
+#[tactic(auto, unfolding(catalog_spelling::specs::Snapshots::snapshot_at))]
 pub(crate) fn read_fields(
     alloc: Global,
     indexed: bool,

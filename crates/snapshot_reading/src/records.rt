@@ -1,16 +1,17 @@
 //! Records of save sets as bytes.
 
 ghost use Rattle.std.specs.Prelude.{◌≡◌, ◌≤◌, ℕ, List, IfOk};
-ghost use Rattle.catalog_text.specs.Reading.{Gives};
-ghost use Rattle.catalog_text.specs.Fields.{coded};
+ghost use Rattle.catalog_spelling.specs.Reading.{Gives};
+ghost use Rattle.catalog_spelling.specs.Fields.{coded};
 ghost use Rattle.save_stream.specs.Spelling.{IsHead};
-ghost use Rattle.snapshot_text.specs.Storing.{AreListed};
-ghost use Rattle.snapshot_text.specs.Records.{fields_at, index_if_at, is_longer, listed_at};
-ghost use Rattle.snapshot_text.specs.Records.{record_kinds, records_at};
+ghost use Rattle.catalog_spelling.specs.Storing.{AreListed};
+ghost use Rattle.catalog_spelling.specs.Records.{fields_at, index_if_at, is_longer, listed_at};
+ghost use Rattle.catalog_spelling.specs.Records.{record_kinds, records_at};
 
 use crate::copies::read_copies;
 use crate::heads::read_head;
 use crate::item::{ReadItem, read_items};
+use catalog_spelling::ListedRecord;
 use catalog_text::{
     Entries, FieldFault, allow, known, read_digest, read_flag, read_list_u32, read_u8, read_u32,
     read_u32_within, read_u64,
@@ -18,7 +19,6 @@ use catalog_text::{
 use media_db::{Record, RecordState};
 use room_base::Items;
 use save_stream::{IndexEntry, SetHead, head_length};
-use snapshot_text::ListedRecord;
 use std::alloc::Global;
 
 /// Records that ascend, below the next one, each with its index where there are indexes.
@@ -46,7 +46,7 @@ impl ReadItem for RecordReader {
 }
 
 /// A list of records.
-#[tactic(auto, unfolding(catalog_text::specs::Lists::list_at))]
+#[tactic(auto, unfolding(catalog_spelling::specs::Lists::list_at))]
 fn read_records(
     alloc: Global,
     next_ssid: u64,
@@ -76,7 +76,7 @@ pub(crate) fn read_listed_records(
     }
 }
 
-#[tactic(auto, unfolding(snapshot_text::specs::Records::listed_at))]
+#[tactic(auto, unfolding(catalog_spelling::specs::Records::listed_at))]
 fn read_listed<'a>(
     alloc: Global,
     reader: &RecordReader,
@@ -93,7 +93,7 @@ fn read_listed<'a>(
 }
 
 // The fields behind a head.
-#[tactic(auto, unfolding(snapshot_text::specs::Records::fields_at, catalog_text::specs::Fields::code_at))]
+#[tactic(auto, unfolding(catalog_spelling::specs::Records::fields_at, catalog_spelling::specs::Fields::code_at))]
 fn read_fields(alloc: Global, head: SetHead, bytes: &[u8]) -> Result<(Record, &[u8]), FieldFault>
     requires { IsHead head }
     ensures { Gives (λ x. (x.0, x.1.now)) result (fields_at head bytes.now) }
@@ -156,7 +156,7 @@ fn is_longer(state: RecordState, head: &SetHead, size: u64) -> bool
 }
 
 // The index stands where there are indexes.
-#[tactic(auto, unfolding(snapshot_text::specs::Records::index_if_at))]
+#[tactic(auto, unfolding(catalog_spelling::specs::Records::index_if_at))]
 fn read_index(
     alloc: Global,
     indexed: bool,

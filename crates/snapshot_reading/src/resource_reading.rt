@@ -6,24 +6,24 @@ ghost use Rattle.std.specs.Cmp.Lexicographic.{slice_cmp};
 ghost use Rattle.room_base.specs.Ordered.{Ascends};
 ghost use Rattle.catalog_change.specs.Resources.{client_name, group_name, policy_name, pool_name};
 ghost use Rattle.catalog_change.specs.Resources.{schedule_name};
-ghost use Rattle.catalog_text.specs.Reading.{Gives};
-ghost use Rattle.catalog_text.specs.Fields.{coded, code_at};
-ghost use Rattle.catalog_text.specs.Lists.{items_at};
-ghost use Rattle.catalog_text.specs.Resources.{unit_kinds, period_kinds};
-ghost use Rattle.snapshot_text.specs.Lists.{AreInOrder};
-ghost use Rattle.snapshot_text.specs.Names.{is_next_name};
-ghost use Rattle.snapshot_text.specs.Resources.{policy_at, pool_at, client_at, schedule_at};
-ghost use Rattle.snapshot_text.specs.Resources.{group_at, member_at, members_at};
+ghost use Rattle.catalog_spelling.specs.Reading.{Gives};
+ghost use Rattle.catalog_spelling.specs.Fields.{coded, code_at};
+ghost use Rattle.catalog_spelling.specs.Lists.{items_at};
+ghost use Rattle.catalog_spelling.specs.Resources.{unit_kinds, period_kinds};
+ghost use Rattle.catalog_spelling.specs.SnapshotOrder.{AreInOrder};
+ghost use Rattle.catalog_spelling.specs.Names.{is_next_name};
+ghost use Rattle.catalog_spelling.specs.SnapshotResources.{policy_at, pool_at, client_at, schedule_at};
+ghost use Rattle.catalog_spelling.specs.SnapshotResources.{group_at, member_at, members_at};
 
 use crate::names::{read_known_name, read_next_name};
 use catalog_change::Client;
+use catalog_spelling::ResourceLists;
 use catalog_text::{
     Actions, FieldFault, Levels, Overrides, SetNames, ShortNames, known, read_list_u8,
     read_list_u16, read_name, read_u8, read_u16_within, read_u32_within,
 };
 use room_base::Items;
 use room_rules::{Group, Member, Period, Policy, Pool, Schedule, Unit};
-use snapshot_text::ResourceLists;
 use std::alloc::Global;
 
 // The most criteria of one kind, actions, overrides and members.
@@ -39,7 +39,7 @@ const MAX_MEMBERS: u16 = 256;
 const MAX_COUNT: u32 = 9_999;
 
 /// A policy behind these.
-#[tactic(auto, unfolding(snapshot_text::specs::Resources::policy_at, catalog_text::specs::Fields::code_at))]
+#[tactic(auto, unfolding(catalog_spelling::specs::SnapshotResources::policy_at, catalog_spelling::specs::Fields::code_at))]
 pub(crate) fn read_policy<'a>(
     alloc: Global,
     before: &[Policy],
@@ -68,7 +68,7 @@ fn unit_of(byte: u8) -> Option<Unit>
 }
 
 /// A pool behind these.
-#[tactic(auto, unfolding(snapshot_text::specs::Resources::pool_at))]
+#[tactic(auto, unfolding(catalog_spelling::specs::SnapshotResources::pool_at))]
 pub(crate) fn read_pool<'a>(
     alloc: Global,
     before: &[Pool],
@@ -93,7 +93,7 @@ pub(crate) fn read_pool<'a>(
 }
 
 /// A client behind these, whose policies are there.
-#[tactic(auto, unfolding(snapshot_text::specs::Resources::client_at))]
+#[tactic(auto, unfolding(catalog_spelling::specs::SnapshotResources::client_at))]
 pub(crate) fn read_client<'a>(
     alloc: Global,
     policies: &[Policy],
@@ -117,7 +117,7 @@ pub(crate) fn read_client<'a>(
 }
 
 /// A schedule behind these.
-#[tactic(auto, unfolding(snapshot_text::specs::Resources::schedule_at, catalog_text::specs::Fields::code_at))]
+#[tactic(auto, unfolding(catalog_spelling::specs::SnapshotResources::schedule_at, catalog_spelling::specs::Fields::code_at))]
 pub(crate) fn read_schedule<'a>(
     alloc: Global,
     before: &[Schedule],
@@ -151,7 +151,7 @@ fn period_of(byte: u8) -> Option<Period>
 }
 
 /// A group behind the others, whose schedule and whose members' clients are there.
-#[tactic(auto, unfolding(snapshot_text::specs::Resources::group_at))]
+#[tactic(auto, unfolding(catalog_spelling::specs::SnapshotResources::group_at))]
 pub(crate) fn read_group<'a>(
     alloc: Global,
     lists: &ResourceLists,
@@ -174,7 +174,7 @@ pub(crate) fn read_group<'a>(
     Ok((group, rest))
 }
 
-#[tactic(auto, unfolding(catalog_text::specs::Lists::list_at))]
+#[tactic(auto, unfolding(catalog_spelling::specs::Lists::list_at))]
 fn read_members<'a>(
     alloc: Global,
     clients: &[Client],
@@ -211,7 +211,7 @@ fn read_each_member<'a>(
 // The least bytes of a member.
 const MEMBER_SIZE: usize = 4;
 
-#[tactic(auto, unfolding(snapshot_text::specs::Resources::member_at))]
+#[tactic(auto, unfolding(catalog_spelling::specs::SnapshotResources::member_at))]
 fn read_member<'a>(
     alloc: Global,
     clients: &[Client],

@@ -2,10 +2,10 @@
 
 ghost use Rattle.std.specs.Prelude.{◌≡◌, ◌==◌, ◌≤◌, ℕ, List};
 ghost use Rattle.std.specs.List.{list_any};
-ghost use Rattle.catalog_text.specs.Reading.{Gives};
+ghost use Rattle.catalog_spelling.specs.Reading.{Gives};
 ghost use Rattle.catalog_change.specs.Catalogues.{slot_cart, slot_number};
-ghost use Rattle.snapshot_text.specs.Media.{count_if_at, is_free, is_free_cart, is_next_slot};
-ghost use Rattle.snapshot_text.specs.Media.{slot_at, slots_at};
+ghost use Rattle.catalog_spelling.specs.Media.{count_if_at, is_free, is_free_cart, is_next_slot};
+ghost use Rattle.catalog_spelling.specs.Media.{slot_at, slots_at};
 
 use crate::item::{ReadItem, read_items};
 use catalog_change::FilledSlot;
@@ -39,7 +39,7 @@ impl ReadItem for SlotReader {
 }
 
 /// A list of slots, whose count is allowed where this holds.
-#[tactic(auto, unfolding(catalog_text::specs::Lists::list_at, snapshot_text::specs::Media::count_if_at))]
+#[tactic(auto, unfolding(catalog_spelling::specs::Lists::list_at, catalog_spelling::specs::Media::count_if_at))]
 pub(crate) fn read_slots(
     alloc: Global,
     allowed: bool,
@@ -52,7 +52,7 @@ pub(crate) fn read_slots(
     read_items(&SlotReader, alloc, usize::from(count), rest)
 }
 
-#[tactic(auto, unfolding(snapshot_text::specs::Media::slot_at))]
+#[tactic(auto, unfolding(catalog_spelling::specs::Media::slot_at))]
 fn read_slot<'a>(
     before: &[FilledSlot],
     bytes: &'a [u8],

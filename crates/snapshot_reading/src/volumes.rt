@@ -2,11 +2,11 @@
 
 ghost use Rattle.std.specs.Prelude.{◌≡◌, ◌==◌, ◌≤◌, ℕ, List, IfOk};
 ghost use Rattle.std.specs.List.{list_any};
-ghost use Rattle.catalog_text.specs.Reading.{Gives};
+ghost use Rattle.catalog_spelling.specs.Reading.{Gives};
 ghost use Rattle.catalog_change.specs.Catalogues.{max_number, volume_cart};
 ghost use Rattle.media_db.specs.Rows.{AreVolumes, volid_of};
-ghost use Rattle.snapshot_text.specs.Media.{is_free, is_free_cart, is_next_drawn, volume_at};
-ghost use Rattle.snapshot_text.specs.Media.{volumes_at};
+ghost use Rattle.catalog_spelling.specs.Media.{is_free, is_free_cart, is_next_drawn, volume_at};
+ghost use Rattle.catalog_spelling.specs.Media.{volumes_at};
 
 use crate::item::{ReadItem, read_items};
 use crate::reading::MAX_NUMBER;
@@ -45,7 +45,7 @@ impl ReadItem for VolumeReader {
 }
 
 /// A list of volumes.
-#[tactic(auto, unfolding(catalog_text::specs::Lists::list_at))]
+#[tactic(auto, unfolding(catalog_spelling::specs::Lists::list_at))]
 fn read_volumes(
     alloc: Global,
     next_volid: u64,
@@ -72,7 +72,7 @@ pub(crate) fn read_listed_volumes(
     }
 }
 
-#[tactic(auto, unfolding(snapshot_text::specs::Media::volume_at))]
+#[tactic(auto, unfolding(catalog_spelling::specs::Media::volume_at))]
 fn read_volume<'a>(
     alloc: Global,
     next_volid: u64,

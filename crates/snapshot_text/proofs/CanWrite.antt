@@ -1,5 +1,5 @@
 -- What a catalogue holds can be written.
-use Rattle.std.proofs.Common.{ℕ, ◌+◌, ◌≤◌, ◌<◌, ◌^◌, List, [], ◌∷◌, length, ap, arith}
+use Rattle.std.proofs.Common.{ℕ, List, [], ◌∷◌, length, ap, arith}
 use Rattle.std.specs.List.{AllByRecursion}
 use Rattle.client_index.specs.declared.index.SetIndex.{SetIndex}
 use Rattle.client_index.specs.Sets.{entries_or_none}
@@ -8,13 +8,10 @@ use Rattle.media_db.specs.declared.copies.CopyState.TheVariants as copies
 use Rattle.media_db.specs.declared.copies.SetCopy.{SetCopy}
 use Rattle.media_db.specs.declared.records.Record.{Record}
 use Rattle.catalog_change.specs.Changes.{AreEntries}
-use Rattle.std.specs.Ordering.{nat_cmp}
-use Rattle.room_base.specs.Ordered.{AscendsFrom}
-use Rattle.room_base.proofs.OrderedNumbers.{lesser_number}
 use Rattle.media_db.specs.declared.volumes.VolumeRec.{VolumeRec}
 use Rattle.catalog_change.specs.declared.slot.FilledSlot.{FilledSlot}
 use Rattle.catalog_change.specs.Resources.{IsShortName}
-use Rattle.catalog_change.specs.Catalogues.{AreSlots, IsCopy, IsFilled, IsRecord, IsVolume, slot_number}
+use Rattle.catalog_change.specs.Catalogues.{IsCopy, IsRecord, IsVolume}
 use Rattle.catalog_change.specs.Catalogues as catalogues
 use Rattle.snapshot_text.specs.Writing.{CanWriteIndex, CanWriteRow, HasSections}
 
@@ -39,13 +36,3 @@ volumes_can next (volume ∷ volumes) each = (each.0.pool, volumes_can next volu
 pub slots_any : (slots : List FilledSlot) → AllByRecursion (λ (filled : FilledSlot). Unit {0}) slots
 slots_any [] = tt
 slots_any (filled ∷ slots) = (tt, slots_any slots)
-
-count-from : (low : ℕ) (slots : List FilledSlot) → low ≤ 32 → AscendsFrom nat_cmp slot_number low slots → AllByRecursion IsFilled slots → low + length slots ≤ 32
-count-from low [] within order each = omega (arith, within)
-count-from low (filled ∷ slots) within order each =
-    let rest = count-from filled.slot slots each.0.slot.1 order.1 each.1 in
-    omega (arith, rest, lesser_number low filled.slot order.0)
-
-pub slots_count : (slots : List FilledSlot) → AreSlots slots → length slots < 2 ^ 8
-slots_count [] are = omega arith
-slots_count (filled ∷ slots) are = omega (arith, count-from filled.slot slots are.each.0.slot.1 are.order are.each.1)

@@ -12,17 +12,17 @@ use Rattle.save_stream.specs.declared.entry.IndexEntry.{IndexEntry}
 use Rattle.catalog_change.specs.Catalogues.{Catalogue}
 use Rattle.catalog_change.specs.declared.resource.Resource.TheVariants as resources
 use Rattle.catalog_change.specs.declared.slot.FilledSlot.{FilledSlot}
-use Rattle.catalog_text.specs.Entries.{entry_text, index_text}
-use Rattle.catalog_text.specs.Resources.{resource_text}
-use Rattle.catalog_text.specs.Sections.{section_text}
+use Rattle.catalog_spelling.specs.Entries.{entry_text, index_text}
+use Rattle.catalog_spelling.specs.Resources.{resource_text}
+use Rattle.catalog_spelling.specs.Sections.{section_text}
 use Rattle.catalog_text.proofs.Lengths.{u32_length, u64_length, length_section}
 use Rattle.catalog_text.proofs.ResourceLengths.{same-items}
-use Rattle.snapshot_text.specs.declared.fields.ListedRecord.{ListedRecord}
-use Rattle.snapshot_text.specs.Media.{copy_text, slot_text, slots_text, volume_text, volumes_text}
-use Rattle.snapshot_text.specs.Records.{index_if_text, listed_text, record_text}
-use Rattle.snapshot_text.specs.Snapshots.{front_text, lists_of, rows_text, snapshot_text}
-use Rattle.snapshot_text.specs.declared.fields.ResourceLists.{ResourceLists}
-use Rattle.snapshot_text.specs.Resources.{lists_text}
+use Rattle.catalog_spelling.specs.declared.snapshot_fields.ListedRecord.{ListedRecord}
+use Rattle.catalog_spelling.specs.Media.{copy_text, slot_text, slots_text, volume_text, volumes_text}
+use Rattle.catalog_spelling.specs.Records.{index_if_text, listed_text, record_text}
+use Rattle.catalog_spelling.specs.Snapshots.{front_text, lists_of, rows_text, snapshot_text}
+use Rattle.catalog_spelling.specs.declared.snapshot_fields.ResourceLists.{ResourceLists}
+use Rattle.catalog_spelling.specs.SnapshotResources.{lists_text}
 use Rattle.snapshot_text.specs.Writing.{listed_by, rows_by}
 use Rattle.client_index.specs.declared.index.SetIndex.{SetIndex}
 

@@ -1,4 +1,3 @@
 pub mod CanWrite
 pub mod Sizes
 pub mod Lengths
-pub mod Fitting

@@ -10,7 +10,7 @@ use Rattle.save_stream.specs.Spelling.{short_text}
 use Rattle.catalog_change.specs.declared.resource.Client.{Client}
 use Rattle.catalog_change.specs.declared.resource.Resource.TheVariants as resources
 use Rattle.catalog_change.specs.Resources.{IsPolicy, IsPool, IsClient, IsSchedule, IsGroup}
-use Rattle.catalog_text.specs.Resources.{resource_text, member_text}
+use Rattle.catalog_spelling.specs.Resources.{resource_text, member_text}
 use Rattle.catalog_text.proofs.ResourceLengths.{bound_resource, length_policy, length_pool, length_client, length_schedule, length_group}
 
 small : (n : ℕ) → n < 2 ^ 24 → u64_saturate n ≡ n

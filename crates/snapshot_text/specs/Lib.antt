@@ -1,11 +1,1 @@
-pub mod Names
-pub mod Lists
-pub mod Resources
-pub mod Media
-pub mod Heads
-pub mod Records
-pub mod Snapshots
-pub mod Fits
-pub mod Storing
-pub mod Decoding
 pub mod Writing

@@ -8,13 +8,13 @@ use Rattle.media_db.specs.declared.copies.SetCopy.{SetCopy}
 use Rattle.media_db.specs.declared.records.Record.{Record}
 use Rattle.save_stream.specs.Spelling.{IsHead}
 use Rattle.catalog_change.specs.Changes.{AreEntries}
-use Rattle.catalog_text.specs.Fields.{number_bytes}
-use Rattle.catalog_text.specs.Lists.{list_text}
-use Rattle.snapshot_text.specs.Records.{listed_text}
+use Rattle.catalog_spelling.specs.Fields.{number_bytes}
+use Rattle.catalog_spelling.specs.Lists.{list_text}
+use Rattle.catalog_spelling.specs.Records.{listed_text}
 use Rattle.catalog_change.specs.declared.resource.Resource.TheVariants as resources
-use Rattle.catalog_text.specs.Resources.{resource_text}
-use Rattle.snapshot_text.specs.declared.fields.ResourceLists.{ResourceLists}
-use Rattle.snapshot_text.specs.declared.fields.ListedRecord.{ListedRecord}
+use Rattle.catalog_spelling.specs.Resources.{resource_text}
+use Rattle.catalog_spelling.specs.declared.snapshot_fields.ResourceLists.{ResourceLists}
+use Rattle.catalog_spelling.specs.declared.snapshot_fields.ListedRecord.{ListedRecord}
 
 -- a record with the index that its set has
 abbrev pub listed_by : List SetIndex → Record → ListedRecord

@@ -5,22 +5,27 @@ ghost use Rattle.std.specs.Io.Iter.{u64_saturate};
 ghost use Rattle.std.specs.List.{AllByRecursion};
 ghost use Rattle.catalog_change.specs.Catalogues.{HasResources, IsCatalogue};
 ghost use Rattle.catalog_text.specs.Writing.{HasRoom, Appends};
-ghost use Rattle.snapshot_text.specs.Resources.{lists_text};
+ghost use Rattle.catalog_spelling.specs.SnapshotResources.{lists_text};
 ghost use Rattle.snapshot_text.specs.Writing.{first_size};
-ghost use Rattle.snapshot_text.specs.Fits.{FitsCatalogue, FitsPool, FitsSchedule};
-ghost use Rattle.snapshot_text.specs.Snapshots.{catalogue_lent, front_text, kept_in, lists_of};
-ghost use Rattle.snapshot_text.specs.Snapshots.{snapshot_text};
+ghost use Rattle.catalog_spelling.specs.Fits.{FitsCatalogue, FitsPool, FitsSchedule};
+ghost use Rattle.catalog_spelling.specs.Snapshots.{catalogue_lent, front_text, kept_in, lists_of};
+ghost use Rattle.catalog_spelling.specs.Snapshots.{snapshot_text};
 
 use crate::SnapshotParts;
 use crate::media_writing::{
     put_rows, put_slots, put_volumes, rows_length, slots_length, volumes_length,
 };
-use crate::parts::{FORM, SNAPSHOT_KIND};
 use crate::put_item::{items_length, put_items};
 use crate::resource_writing::{Clients, Groups, Policies, Pools, Schedules};
 use catalog_text::{put_u8, put_u32, put_u64};
 use room_base::Memory;
 use std::alloc::Global;
+
+/// The byte that a snapshot begins with.
+pub const SNAPSHOT_KIND: u8 = b'B';
+
+/// The form of snapshots, which follows.
+pub const FORM: u8 = 1;
 
 /// Writes a catalogue in its one spelling, with its indexes or without.
 pub fn snapshot(alloc: Global, parts: &SnapshotParts, with_indexes: bool) -> Result<Vec<u8>, Memory>

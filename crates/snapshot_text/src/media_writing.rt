@@ -6,17 +6,17 @@ ghost use Rattle.std.specs.List.{AllByRecursion};
 ghost use Rattle.catalog_change.specs.Catalogues.{AreSlots};
 ghost use Rattle.catalog_change.specs.Changes.{AreEntries};
 ghost use Rattle.catalog_change.specs.Resources.{IsShortName};
-ghost use Rattle.catalog_text.specs.Entries.{index_text, FitsEntry};
+ghost use Rattle.catalog_spelling.specs.Entries.{index_text, FitsEntry};
 ghost use Rattle.catalog_text.specs.Writing.{HasRoom, Appends};
 ghost use Rattle.client_index.specs.Sets.{entries_or_none};
 ghost use Rattle.media_db.specs.Streams.{head_of};
 ghost use Rattle.save_stream.specs.Heads.{head_of_parts};
-ghost use Rattle.snapshot_text.specs.Fits.{FitsCopy, FitsNumbers, FitsRecord, FitsRow, FitsVolume};
-ghost use Rattle.snapshot_text.specs.Snapshots.{kept_index};
-ghost use Rattle.snapshot_text.specs.Media.{copies_text, copy_byte, copy_text, slot_text};
-ghost use Rattle.snapshot_text.specs.Media.{slots_text, volume_text, volumes_text};
-ghost use Rattle.snapshot_text.specs.Records.{index_if_text, listed_text, record_text, state_byte};
-ghost use Rattle.snapshot_text.specs.Records.{fields_text, state_text};
+ghost use Rattle.catalog_spelling.specs.Fits.{FitsCopy, FitsNumbers, FitsRecord, FitsRow, FitsVolume};
+ghost use Rattle.catalog_spelling.specs.Snapshots.{kept_index};
+ghost use Rattle.catalog_spelling.specs.Media.{copies_text, copy_byte, copy_text, slot_text};
+ghost use Rattle.catalog_spelling.specs.Media.{slots_text, volume_text, volumes_text};
+ghost use Rattle.catalog_spelling.specs.Records.{index_if_text, listed_text, record_text, state_byte};
+ghost use Rattle.catalog_spelling.specs.Records.{fields_text, state_text};
 ghost use Rattle.snapshot_text.specs.Writing.{CanWriteIndex, CanWriteRow, HasSections, listed_by};
 ghost use Rattle.snapshot_text.specs.Writing.{rows_by};
 
@@ -59,7 +59,7 @@ fn put_slot(into: &mut Vec<u8>, filled: FilledSlot)
 }
 
 /// Appends slots behind one byte of count.
-#[tactic(auto, using(crate::proofs::CanWrite::slots_count, crate::proofs::CanWrite::slots_any))]
+#[tactic(auto, using(snapshot_laws::proofs::SlotCounts::slots_count, crate::proofs::CanWrite::slots_any))]
 pub(crate) fn put_slots(into: &mut Vec<u8>, slots: &[FilledSlot])
     requires allowed { AreSlots slots.now }
     requires room { HasRoom into.old (slots_text slots.now) }
@@ -332,7 +332,7 @@ pub(crate) fn put_rows(into: &mut Vec<u8>, db: &MediaDb, index: &ClientIndex, in
     put_list(&Records { index, indexed }, db.records(), into);
 }
 
-#[tactic(auto, using(crate::proofs::CanWrite::slots_count, crate::proofs::Lengths::length_slots))]
+#[tactic(auto, using(snapshot_laws::proofs::SlotCounts::slots_count, crate::proofs::Lengths::length_slots))]
 pub(crate) fn slots_length(slots: &[FilledSlot]) -> u64
     requires { AreSlots slots.now }
     ensures { result ≡ u64_saturate (length (slots_text slots.now)) }

@@ -3,8 +3,8 @@
 ghost use Rattle.std.specs.Prelude.{◌≡◌, ◌≤◌, ◌<◌, ◌+◌, ◌^◌, List, ℕ, length};
 ghost use Rattle.std.specs.Io.Iter.{u64_saturate};
 ghost use Rattle.std.specs.List.{flat_map, AllByRecursion};
-ghost use Rattle.catalog_text.specs.Fields.{number_bytes};
-ghost use Rattle.catalog_text.specs.Lists.{list_text};
+ghost use Rattle.catalog_spelling.specs.Fields.{number_bytes};
+ghost use Rattle.catalog_spelling.specs.Lists.{list_text};
 ghost use Rattle.catalog_text.specs.Writing.{HasRoom, Appends};
 
 use catalog_text::put_u32;

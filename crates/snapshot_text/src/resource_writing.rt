@@ -4,9 +4,9 @@ ghost use Rattle.std.specs.Prelude.{◌≡◌, ◌≤◌, List, ℕ, length};
 ghost use Rattle.std.specs.Io.Iter.{u64_saturate};
 ghost use Rattle.catalog_change.specs.Resources.{IsPolicy, IsPool, IsClient, IsSchedule, IsGroup};
 ghost use Rattle.catalog_change.specs.declared.resource.Resource.TheVariants as resources;
-ghost use Rattle.catalog_text.specs.Resources.{fields_text, resource_text, unit_byte, period_byte};
+ghost use Rattle.catalog_spelling.specs.Resources.{fields_text, resource_text, unit_byte, period_byte};
 ghost use Rattle.catalog_text.specs.Writing.{HasRoom, Appends};
-ghost use Rattle.snapshot_text.specs.Fits.{FitsPool, FitsSchedule};
+ghost use Rattle.catalog_spelling.specs.Fits.{FitsPool, FitsSchedule};
 
 use crate::put_item::PutItem;
 use catalog_change::{Client, ResourceKind};

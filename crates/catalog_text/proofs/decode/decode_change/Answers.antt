@@ -1,6 +1,6 @@
 use Rattle.std.proofs.Common.{sym, ◌∙◌, length, arith}
 use Rattle.std.proofs.lemmas.Bool.{eqb-true}
-use Rattle.catalog_text.proofs.Decodes.{decoded-text, change-ends-within, change-ends-bad, change-stops-within, change-stops-bad, some-from}
+use Rattle.catalog_spelling.proofs.Decodes.{decoded-text, change-ends-within, change-ends-bad, change-stops-within, change-stops-bad, some-from}
 use Rattle.catalog_text.proofs.decode.decode_change.Goals as goal
 
 pub bad-requires : goal.bad-requires

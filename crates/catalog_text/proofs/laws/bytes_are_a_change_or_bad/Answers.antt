@@ -1,4 +1,4 @@
-use Rattle.catalog_text.proofs.ChangeTexts.{each-text, not-bad, one-place}
+use Rattle.catalog_spelling.proofs.ChangeTexts.{each-text, not-bad, one-place}
 use Rattle.catalog_text.proofs.laws.bytes_are_a_change_or_bad.Goals as goal
 
 pub returns-clause-each : goal.returns-clause-each

@@ -1,4 +1,4 @@
-use Rattle.catalog_text.proofs.ChangeTexts.{one-change}
+use Rattle.catalog_spelling.proofs.ChangeTexts.{one-change}
 use Rattle.catalog_text.proofs.laws.one_spelling.Goals as goal
 
 pub returns : goal.returns

@@ -1,4 +1,4 @@
-use Rattle.journal_replay.proofs.Once.{never_both, never_neither, one_catalogue, one_damage}
+use Rattle.journal_files.proofs.Once.{never_both, never_neither, one_catalogue, one_damage}
 use Rattle.journal_replay.proofs.laws.files_replay_as_one.Goals as goal
 
 pub returns : goal.returns

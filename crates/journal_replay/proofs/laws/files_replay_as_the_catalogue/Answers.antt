@@ -1,7 +1,7 @@
 use Rattle.room_effects.proofs.Reopening.{crash_reopens, end_reopens}
-use Rattle.journal_replay.specs.Files.{IsSnapshot}
-use Rattle.journal_replay.proofs.Once.{never_both}
-use Rattle.journal_replay.proofs.Snapshots.{have_snapshots}
+use Rattle.journal_files.specs.Files.{IsSnapshot}
+use Rattle.journal_files.proofs.Once.{never_both}
+use Rattle.journal_files.proofs.Snapshots.{have_snapshots}
 use Rattle.journal_replay.proofs.laws.files_replay_as_the_catalogue.Goals as goal
 
 pub returns : goal.returns

@@ -1,6 +1,6 @@
 use Rattle.room_effects.proofs.ReopeningDisks.{crashes_reopen, images_reopen}
-use Rattle.journal_replay.specs.Files.{IsSnapshot}
-use Rattle.journal_replay.proofs.Snapshots.{have_snapshots}
+use Rattle.journal_files.specs.Files.{IsSnapshot}
+use Rattle.journal_files.proofs.Snapshots.{have_snapshots}
 use Rattle.journal_replay.proofs.laws.images_replay_as_the_catalogue.Goals as goal
 
 pub returns : goal.returns

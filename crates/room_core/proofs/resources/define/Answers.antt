@@ -1,5 +1,5 @@
 use Rattle.std.proofs.Common.{List, ℕ, subst}
-use Rattle.room_plan.specs.Plans.{Follows, Plan}
+use Rattle.room_effects.specs.Plans.{Follows, Plan}
 use Rattle.room_between.proofs.Planning.{between_followed}
 use Rattle.room_resources.specs.Defining.{IsDefinePlan}
 use Rattle.room_turns.proofs.Quiet.{define_quiet}

@@ -3,8 +3,8 @@ use Rattle.room_base.specs.declared.refusal.Refusal.TheVariants.{TooMany}
 use Rattle.room_catalog.specs.Held.{HeldCatalogue}
 use Rattle.room_command.specs.declared.reply.Reply.TheVariants as replies
 use Rattle.room_effects.specs.Effects.{Enter}
-use Rattle.room_plan.specs.Entering.{ceiling, is_at_ceiling}
-use Rattle.room_plan.proofs.Following.{follows_refusal}
+use Rattle.room_effects.specs.Entering.{ceiling, is_at_ceiling}
+use Rattle.room_effects.proofs.Following.{follows_refusal}
 use Rattle.room_entering.proofs.Ceilings.{follows_at_ceiling}
 use Rattle.room_entering.proofs.entering.enter_alone.Goals as goal
 

@@ -3,9 +3,9 @@ use Rattle.room_base.specs.declared.refusal.Refusal.TheVariants.{NoMemory}
 use Rattle.room_command.specs.declared.reply.Reply.TheVariants as replies
 use Rattle.room_effects.specs.View.{RoomView}
 use Rattle.room_effects.specs.Effects.{Enter}
-use Rattle.room_plan.specs.Entering.{with_first_file}
-use Rattle.room_plan.specs.Plans.{Do, Follows}
-use Rattle.room_plan.proofs.Following.{follows_no_memory}
+use Rattle.room_effects.specs.Entering.{with_first_file}
+use Rattle.room_effects.specs.Plans.{Do, Follows}
+use Rattle.room_effects.proofs.Following.{follows_no_memory}
 use Rattle.room_entering.proofs.entering.enter_below.Goals as goal
 
 -- src/entering.rt:108:1

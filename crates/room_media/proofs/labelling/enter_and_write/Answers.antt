@@ -14,9 +14,9 @@ use Rattle.room_effects.specs.Effects.{Enter}
 use Rattle.room_effects.specs.Needs.{IsFitting}
 use Rattle.room_effects.specs.Running.{Does}
 use Rattle.room_entering.specs.Prepared.{IsEnteredFrom}
-use Rattle.room_plan.specs.Entering.{with_first_file}
-use Rattle.room_plan.specs.Plans.{Follows}
-use Rattle.room_plan.proofs.Following.{follows_no_memory}
+use Rattle.room_effects.specs.Entering.{with_first_file}
+use Rattle.room_effects.specs.Plans.{Follows}
+use Rattle.room_effects.proofs.Following.{follows_no_memory}
 use Rattle.room_media.specs.Labelling.{label_of, new_volume_plan, next_volid}
 use Rattle.room_media.proofs.Relabelling.{can_write, change_fits, change_is, follows_labelled, follows_unentered, follows_unlabelled, label_is}
 use Rattle.room_media.proofs.labelling.enter_and_write.Goals as goal

@@ -2,12 +2,12 @@ use Rattle.std.proofs.Common.{refl}
 use Rattle.std.specs.Prelude.{None}
 use Rattle.media_db.specs.Rows.{volume_on}
 use Rattle.volume_store.specs.declared.label.Found.TheVariants as founds
-use Rattle.room_plan.specs.Checked.{checked}
-use Rattle.room_plan.proofs.Checking.{follows_checks}
+use Rattle.room_effects.specs.Checked.{checked}
+use Rattle.room_effects.proofs.Checking.{follows_checks}
 use Rattle.room_media.specs.declared.labelling.NewVolume.{NewVolume}
 use Rattle.room_media.specs.Labelling.{label_checks, relabel_plan, volume_of}
 use Rattle.room_media.specs.Slots.{cart_in}
-use Rattle.room_plan.specs.Plans.{Plan}
+use Rattle.room_effects.specs.Plans.{Plan}
 use Rattle.room_media.proofs.Asking.{none_asked}
 use Rattle.room_media.proofs.labelling.label.Goals as goal
 

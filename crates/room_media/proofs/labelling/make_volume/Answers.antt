@@ -5,8 +5,8 @@ use Rattle.room_catalog.specs.Held.{HeldCatalogue}
 use Rattle.room_command.specs.declared.answer.Answer.TheVariants.{Labelled}
 use Rattle.room_command.specs.declared.reply.Reply.TheVariants as replies
 use Rattle.room_effects.specs.Effects.{Enter, WriteLabel}
-use Rattle.room_plan.specs.Entering.{ceiling, is_at_ceiling}
-use Rattle.room_plan.proofs.Following.{follows_refusal}
+use Rattle.room_effects.specs.Entering.{ceiling, is_at_ceiling}
+use Rattle.room_effects.proofs.Following.{follows_refusal}
 use Rattle.room_entering.proofs.Ceilings.{follows_at_ceiling}
 use Rattle.room_media.specs.Labelling.{label_of, next_volid}
 use Rattle.room_media.proofs.labelling.make_volume.Goals as goal

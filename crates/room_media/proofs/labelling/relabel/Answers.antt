@@ -5,9 +5,9 @@ use Rattle.volume_store.specs.declared.label.Found.{Found}
 use Rattle.volume_store.specs.declared.label.Found.TheVariants as founds
 use Rattle.room_command.specs.declared.reply.Reply.TheVariants.{Refused}
 use Rattle.room_effects.specs.Effects.{SeenLabel}
-use Rattle.room_plan.specs.Checked.{checked}
-use Rattle.room_plan.specs.Plans.{Plan}
-use Rattle.room_plan.proofs.Checking.{came_to, follows_behind, follows_checked, follows_checks, follows_unread}
+use Rattle.room_effects.specs.Checked.{checked}
+use Rattle.room_effects.specs.Plans.{Plan}
+use Rattle.room_effects.proofs.Checking.{came_to, follows_behind, follows_checked, follows_checks, follows_unread}
 use Rattle.room_media.specs.Labelling.{new_volume_plan, old_label}
 use Rattle.room_media.proofs.Asking.{none_asked}
 use Rattle.room_media.proofs.labelling.relabel.Goals as goal

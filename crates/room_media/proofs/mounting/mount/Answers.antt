@@ -7,7 +7,7 @@ use Rattle.volume_store.specs.declared.commit.Volume.{Volume}
 use Rattle.volume_store.specs.declared.label.Found.TheVariants as founds
 use Rattle.volume_store.specs.declared.marks.MountFault.{MountFault}
 use Rattle.volume_store.specs.declared.marks.MountFault.TheVariants as mounts
-use Rattle.room_plan.proofs.Checking.{came_to, follows_checked, follows_checks}
+use Rattle.room_effects.proofs.Checking.{came_to, follows_checked, follows_checks}
 use Rattle.room_media.specs.Mounting.{IsOn, cart_plan, mount_checks, mount_plan}
 use Rattle.room_media.proofs.Putting.{is_on, none_on}
 use Rattle.room_media.proofs.mounting.mount.Goals as goal

@@ -9,8 +9,8 @@ use Rattle.volume_store.specs.declared.marks.MountFault.{MountFault}
 use Rattle.volume_store.specs.declared.marks.MountFault.TheVariants as mounts
 use Rattle.room_command.specs.declared.reply.Reply.TheVariants.{Refused}
 use Rattle.room_effects.specs.Effects.{SeenLabel}
-use Rattle.room_plan.specs.Checked.{checked}
-use Rattle.room_plan.proofs.Checking.{follows_behind, follows_checked, follows_checks, follows_unread}
+use Rattle.room_effects.specs.Checked.{checked}
+use Rattle.room_effects.proofs.Checking.{follows_behind, follows_checked, follows_checks, follows_unread}
 use Rattle.room_media.specs.Mounting.{found_own, volume_plan}
 use Rattle.room_media.proofs.mounting.mount_cart.Goals as goal
 

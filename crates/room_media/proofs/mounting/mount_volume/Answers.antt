@@ -11,10 +11,10 @@ use Rattle.room_command.specs.declared.reply.Reply.TheVariants.{Done, Refused}
 use Rattle.room_effects.specs.View.{RoomView}
 use Rattle.room_effects.specs.Effects.{PutIn, SeenVolume}
 use Rattle.room_effects.proofs.Sending.{does_put_in}
-use Rattle.room_plan.specs.Checked.{checked}
-use Rattle.room_plan.specs.Plans.{Follows}
-use Rattle.room_plan.proofs.Checking.{follows_behind, follows_checked, follows_unread}
-use Rattle.room_plan.proofs.Following.{follows_done, follows_no_memory}
+use Rattle.room_effects.specs.Checked.{checked}
+use Rattle.room_effects.specs.Plans.{Follows}
+use Rattle.room_effects.proofs.Checking.{follows_behind, follows_checked, follows_unread}
+use Rattle.room_effects.proofs.Following.{follows_done, follows_no_memory}
 use Rattle.room_media.specs.Mounting.{mounted_own, put_in_plan}
 use Rattle.room_media.proofs.Putting.{can_put, own_is}
 use Rattle.room_media.proofs.mounting.mount_volume.Goals as goal

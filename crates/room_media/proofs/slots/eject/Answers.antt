@@ -4,8 +4,8 @@ use Rattle.catalog_change.specs.declared.change.Change.TheVariants.{Ejected}
 use Rattle.room_command.specs.declared.answer.Answer.TheVariants.{Empty}
 use Rattle.room_command.specs.declared.reply.Reply.TheVariants.{Done}
 use Rattle.room_effects.specs.Effects.{Enter}
-use Rattle.room_plan.specs.Entering.{entering}
-use Rattle.room_plan.proofs.Checking.{follows_checks}
+use Rattle.room_effects.specs.Entering.{entering}
+use Rattle.room_effects.proofs.Checking.{follows_checks}
 use Rattle.room_media.specs.Slots.{eject_checks}
 use Rattle.room_media.proofs.slots.eject.Goals as goal
 

@@ -5,8 +5,8 @@ use Rattle.room_command.specs.declared.answer.Answer.TheVariants.{Empty}
 use Rattle.room_command.specs.declared.reply.Reply.TheVariants.{Done, Refused}
 use Rattle.slot_changer.specs.Drives.{DriveView, blocks_in, in_drive}
 use Rattle.room_effects.specs.View.{RoomView}
-use Rattle.room_plan.specs.Plans.{Do, Follows}
-use Rattle.room_plan.proofs.Following.{follows_no_memory}
+use Rattle.room_effects.specs.Plans.{Do, Follows}
+use Rattle.room_effects.proofs.Following.{follows_no_memory}
 use Rattle.room_media.specs.Mounting.{emptying}
 use Rattle.room_media.proofs.Emptying.{follows_empty}
 use Rattle.room_media.proofs.unmounting.empty_drive.Goals as goal

@@ -1,7 +1,7 @@
 use Rattle.room_command.specs.declared.answer.Answer.TheVariants.{Empty}
 use Rattle.room_command.specs.declared.reply.Reply.TheVariants.{Done}
-use Rattle.room_plan.specs.Plans.{Do}
-use Rattle.room_plan.proofs.Checking.{follows_checks}
+use Rattle.room_effects.specs.Plans.{Do}
+use Rattle.room_effects.proofs.Checking.{follows_checks}
 use Rattle.room_media.specs.Mounting.{emptying, unmount_checks}
 use Rattle.room_media.proofs.unmounting.unmount.Goals as goal
 

@@ -3,8 +3,8 @@ use Rattle.catalog_change.specs.declared.change.Change.TheVariants.{Amended}
 use Rattle.room_command.specs.declared.answer.Answer.TheVariants.{Empty}
 use Rattle.room_command.specs.declared.reply.Reply.TheVariants.{Done}
 use Rattle.room_effects.specs.Effects.{Enter}
-use Rattle.room_plan.specs.Entering.{entering}
-use Rattle.room_plan.proofs.Checking.{came_to, follows_checks}
+use Rattle.room_effects.specs.Entering.{entering}
+use Rattle.room_effects.proofs.Checking.{came_to, follows_checks}
 use Rattle.room_records.specs.declared.amending.Amendment.{Amendment}
 use Rattle.room_records.specs.Amending.{amend_checks}
 use Rattle.room_records.proofs.Amendable.{amend_fits}

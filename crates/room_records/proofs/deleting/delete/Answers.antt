@@ -3,10 +3,10 @@ use Rattle.catalog_change.specs.declared.change.Change.TheVariants.{Deleted}
 use Rattle.room_command.specs.declared.answer.Answer.TheVariants.{Empty}
 use Rattle.room_command.specs.declared.reply.Reply.TheVariants.{Done}
 use Rattle.room_effects.specs.Effects.{Enter}
-use Rattle.room_plan.specs.Checked.{checked}
-use Rattle.room_plan.specs.Entering.{entering}
-use Rattle.room_plan.specs.Plans.{Plan}
-use Rattle.room_plan.proofs.Checking.{came_to, follows_checked, follows_checks}
+use Rattle.room_effects.specs.Checked.{checked}
+use Rattle.room_effects.specs.Entering.{entering}
+use Rattle.room_effects.specs.Plans.{Plan}
+use Rattle.room_effects.proofs.Checking.{came_to, follows_checked, follows_checks}
 use Rattle.room_records.specs.Deleting.{delete_checks}
 use Rattle.room_records.proofs.deleting.delete.Goals as goal
 

@@ -1,7 +1,7 @@
 use Rattle.std.proofs.Common.{◌∷◌, []}
 use Rattle.room_command.specs.declared.reply.Reply.TheVariants.{Done}
 use Rattle.room_effects.specs.Effects.{Enter}
-use Rattle.room_plan.specs.Entering.{entering}
+use Rattle.room_effects.specs.Entering.{entering}
 use Rattle.room_between.proofs.Planning.{between_followed}
 use Rattle.room_records.proofs.Quieting.{entering_is_quiet}
 use Rattle.room_records.proofs.entering.enter.Goals as goal

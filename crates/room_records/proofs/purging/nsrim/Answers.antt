@@ -1,8 +1,8 @@
 use Rattle.std.proofs.Common.{List, refl}
 use Rattle.std.specs.Prelude.{Some, None}
 use Rattle.room_base.specs.declared.numbers.Ssid.{Ssid}
-use Rattle.room_plan.specs.Checked.{checked}
-use Rattle.room_plan.proofs.Following.{follows_no_memory}
+use Rattle.room_effects.specs.Checked.{checked}
+use Rattle.room_effects.proofs.Following.{follows_no_memory}
 use Rattle.room_records.specs.Deleting.{known}
 use Rattle.room_records.specs.Purging.{purging}
 use Rattle.room_records.proofs.purging.nsrim.Goals as goal

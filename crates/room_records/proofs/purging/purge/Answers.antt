@@ -6,7 +6,7 @@ use Rattle.catalog_change.specs.declared.change.Change.TheVariants.{Purged}
 use Rattle.room_catalog.specs.Fits.{FitsByKind}
 use Rattle.room_catalog.specs.Held.{HeldCatalogue, catalogue_of}
 use Rattle.room_catalog.specs.Invariant.{IsHeld}
-use Rattle.room_plan.proofs.Following.{follows_no_memory}
+use Rattle.room_effects.proofs.Following.{follows_no_memory}
 use Rattle.room_records.specs.Purging.{purging}
 use Rattle.room_records.proofs.Purgeable.{purge_allowed, purge_fits}
 use Rattle.room_records.proofs.PurgePlan.{follows_some}

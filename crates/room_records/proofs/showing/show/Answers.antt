@@ -2,8 +2,8 @@ use Rattle.std.proofs.Common.{[]}
 use Rattle.media_db.specs.declared.records.Record.{Record}
 use Rattle.room_command.specs.declared.answer.Answer.TheVariants.{Shown}
 use Rattle.room_command.specs.declared.reply.Reply.TheVariants.{Done}
-use Rattle.room_plan.specs.Plans.{Do}
-use Rattle.room_plan.proofs.Checking.{follows_checks}
+use Rattle.room_effects.specs.Plans.{Do}
+use Rattle.room_effects.proofs.Checking.{follows_checks}
 use Rattle.room_records.specs.Showing.{record_of}
 use Rattle.room_records.proofs.showing.show.Goals as goal
 

@@ -5,9 +5,9 @@ use Rattle.catalog_change.specs.declared.resource.Resource.{Resource}
 use Rattle.room_command.specs.declared.answer.Answer.TheVariants as answers
 use Rattle.room_command.specs.declared.reply.Reply.TheVariants.{Done}
 use Rattle.room_effects.specs.Effects.{Enter}
-use Rattle.room_plan.specs.Checked.{ComesTo}
-use Rattle.room_plan.specs.Entering.{entering}
-use Rattle.room_plan.proofs.Checking.{came_to, follows_checks}
+use Rattle.room_effects.specs.Checked.{ComesTo}
+use Rattle.room_effects.specs.Entering.{entering}
+use Rattle.room_effects.proofs.Checking.{came_to, follows_checks}
 use Rattle.room_resources.specs.Defining.{may_define}
 use Rattle.room_resources.proofs.Definable.{are_few, can_be_added}
 use Rattle.room_resources.proofs.defining.define_each.Goals as goal

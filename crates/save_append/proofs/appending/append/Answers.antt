@@ -6,8 +6,8 @@ use Rattle.room_command.specs.declared.reply.Reply.TheVariants.{Done}
 use Rattle.save_session.specs.declared.checked.Checked.TheVariants as checks
 use Rattle.save_session.specs.Sessions.{SessionView, check_open, find_session}
 use Rattle.room_effects.proofs.Does.{does_none}
-use Rattle.room_plan.specs.Plans.{Do, Follows, Plan, Refuse}
-use Rattle.room_plan.proofs.Following.{follows_done, follows_refusal}
+use Rattle.room_effects.specs.Plans.{Do, Follows, Plan, Refuse}
+use Rattle.room_effects.proofs.Following.{follows_done, follows_refusal}
 use Rattle.save_append.specs.Appending.{max_piece}
 use Rattle.save_append.proofs.Planning.{of_checked, of_long, of_new, of_none}
 use Rattle.save_append.proofs.appending.append.Goals as goal

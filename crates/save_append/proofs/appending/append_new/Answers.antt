@@ -3,8 +3,8 @@ use Rattle.room_base.specs.declared.refusal.Refusal.TheVariants.{TooMany}
 use Rattle.room_command.specs.declared.reply.Reply.TheVariants.{Refused}
 use Rattle.save_stream.specs.Spelling.{max_size}
 use Rattle.save_session.specs.Sessions.{find_session}
-use Rattle.room_plan.specs.Plans.{Follows, Plan}
-use Rattle.room_plan.proofs.Following.{follows_refusal}
+use Rattle.room_effects.specs.Plans.{Follows, Plan}
+use Rattle.room_effects.proofs.Following.{follows_refusal}
 use Rattle.save_append.proofs.Planning.{follows_none, goes_on, too_many}
 use Rattle.save_append.proofs.appending.append_new.Goals as goal
 

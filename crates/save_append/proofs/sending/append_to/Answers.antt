@@ -3,7 +3,7 @@ use Rattle.std.specs.Prelude.{IfSome, Some}
 use Rattle.room_base.specs.declared.refusal.Refusal.TheVariants.{NoMemory}
 use Rattle.room_command.specs.declared.reply.Reply.TheVariants.{Refused}
 use Rattle.room_effects.specs.View.{RoomView}
-use Rattle.room_plan.specs.Plans.{Follows}
+use Rattle.room_effects.specs.Plans.{Follows}
 use Rattle.save_session.specs.Sessions.{find_session}
 use Rattle.save_append.specs.Appending.{on_drive}
 use Rattle.save_append.proofs.Taking.{follows_nothing}

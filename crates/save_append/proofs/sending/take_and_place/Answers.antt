@@ -11,7 +11,7 @@ use Rattle.room_effects.specs.View.{IsRoom, RoomView}
 use Rattle.room_effects.proofs.StayingSessions.{as_many_changed}
 use Rattle.room_between.specs.Middle.{EndsWith, IsBetweenBut}
 use Rattle.room_between.proofs.Stepping.{taken}
-use Rattle.room_plan.specs.Plans.{Follows}
+use Rattle.room_effects.specs.Plans.{Follows}
 use Rattle.save_append.specs.Appending.{bad_piece, on_drive}
 use Rattle.save_append.proofs.Taking.{can_take, ends_with_piece, follows_lost, follows_refused, follows_taken, is_sent_still}
 use Rattle.save_append.proofs.sending.take_and_place.Goals as goal

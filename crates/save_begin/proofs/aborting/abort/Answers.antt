@@ -1,5 +1,5 @@
 use Rattle.std.proofs.Common.{inl}
-use Rattle.room_plan.proofs.Checking.{follows_checks}
+use Rattle.room_effects.proofs.Checking.{follows_checks}
 use Rattle.save_begin.specs.Aborting.{abort_checks, giving_up}
 use Rattle.save_begin.proofs.aborting.abort.Goals as goal
 

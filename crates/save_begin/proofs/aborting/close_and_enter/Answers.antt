@@ -4,8 +4,8 @@ use Rattle.catalog_change.specs.declared.change.Change.TheVariants.{Aborted}
 use Rattle.room_command.specs.declared.answer.Answer.TheVariants.{Empty}
 use Rattle.room_command.specs.declared.reply.Reply.TheVariants.{Done}
 use Rattle.room_effects.specs.Effects.{Close, Enter}
-use Rattle.room_plan.specs.Entering.{with_first_file}
-use Rattle.room_plan.proofs.Following.{follows_done, follows_fault}
+use Rattle.room_effects.specs.Entering.{with_first_file}
+use Rattle.room_effects.proofs.Following.{follows_done, follows_fault}
 use Rattle.save_begin.proofs.Abandoning.{between_aborted, between_closed, does_aborted, fits_closed, none_now}
 use Rattle.save_begin.proofs.aborting.close_and_enter.Goals as goal
 

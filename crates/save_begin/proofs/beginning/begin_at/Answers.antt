@@ -1,6 +1,6 @@
 use Rattle.std.proofs.Common.{subst, sym, arith}
 use Rattle.save_stream.specs.declared.head.SetHead.{SetHead}
-use Rattle.room_plan.proofs.Checking.{came_to}
+use Rattle.room_effects.proofs.Checking.{came_to}
 use Rattle.save_begin.specs.declared.choosing.Chosen.{Chosen}
 use Rattle.save_begin.specs.Beginning.{drive_check}
 use Rattle.save_begin.specs.Fitting.{IsNewHead}

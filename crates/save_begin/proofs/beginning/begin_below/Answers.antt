@@ -2,8 +2,8 @@ use Rattle.std.proofs.Common.{subst, sym}
 use Rattle.room_base.specs.declared.refusal.Refusal.TheVariants.{NoMemory}
 use Rattle.room_command.specs.declared.reply.Reply.TheVariants.{Refused}
 use Rattle.room_effects.specs.View.{RoomView}
-use Rattle.room_plan.specs.Plans.{Follows}
-use Rattle.room_plan.proofs.Following.{follows_no_memory}
+use Rattle.room_effects.specs.Plans.{Follows}
+use Rattle.room_effects.proofs.Following.{follows_no_memory}
 use Rattle.save_begin.specs.Beginning.{begin_plan}
 use Rattle.save_begin.proofs.beginning.begin_below.Goals as goal
 

@@ -2,8 +2,8 @@ use Rattle.std.proofs.Common.{◌≡◌, true, subst, sym}
 use Rattle.room_base.specs.declared.refusal.Refusal.TheVariants.{TooMany}
 use Rattle.room_catalog.specs.Held.{HeldCatalogue}
 use Rattle.room_command.specs.declared.reply.Reply.TheVariants.{Refused}
-use Rattle.room_plan.specs.Entering.{ceiling, is_at_ceiling}
-use Rattle.room_plan.proofs.Following.{follows_refusal}
+use Rattle.room_effects.specs.Entering.{ceiling, is_at_ceiling}
+use Rattle.room_effects.proofs.Following.{follows_refusal}
 use Rattle.save_begin.proofs.Planned.{follows_at_ceiling}
 use Rattle.save_begin.proofs.beginning.begin_chosen.Goals as goal
 

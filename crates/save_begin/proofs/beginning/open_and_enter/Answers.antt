@@ -5,8 +5,8 @@ use Rattle.room_command.specs.declared.answer.Answer.{Answer}
 use Rattle.room_command.specs.declared.reply.Reply.TheVariants.{Done, Refused}
 use Rattle.room_effects.specs.View.{RoomView}
 use Rattle.room_effects.specs.Effects.{Open}
-use Rattle.room_plan.specs.Plans.{Follows}
-use Rattle.room_plan.proofs.Following.{follows_done, follows_fault, follows_no_memory}
+use Rattle.room_effects.specs.Plans.{Follows}
+use Rattle.room_effects.proofs.Following.{follows_done, follows_fault, follows_no_memory}
 use Rattle.save_begin.specs.Beginning.{begin_plan, begun_answer, entering_head}
 use Rattle.save_begin.proofs.Opening.{can_open, may_enter}
 use Rattle.save_begin.proofs.Planned.{does_begin}

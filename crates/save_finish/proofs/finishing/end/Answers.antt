@@ -1,7 +1,7 @@
 use Rattle.std.proofs.Common.{◌≡◌, true, subst, sym}
 use Rattle.room_catalog.specs.Held.{HeldCatalogue}
 use Rattle.save_session.specs.Sessions.{find_session}
-use Rattle.room_plan.specs.Entering.{is_at_ceiling}
+use Rattle.room_effects.specs.Entering.{is_at_ceiling}
 use Rattle.save_finish.proofs.Planning.{ceiling_found}
 use Rattle.save_finish.proofs.finishing.end.Goals as goal
 

@@ -1,6 +1,6 @@
 use Rattle.std.proofs.Common.{ℕ, ◌<◌, ◌≤◌, ◌^◌, length}
 use Rattle.std.specs.List.{flat_map}
-use Rattle.catalog_text.specs.Entries.{entry_text}
+use Rattle.catalog_spelling.specs.Entries.{entry_text}
 use Rattle.save_finish.specs.Ending.{part_of}
 use Rattle.save_finish.proofs.lengths.longest_part.Given as goal
 

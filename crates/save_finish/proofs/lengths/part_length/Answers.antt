@@ -1,7 +1,7 @@
 use Rattle.std.proofs.Common.{List, ap, length, ◌∙◌}
 use Rattle.std.specs.List.{flat_map}
 use Rattle.save_stream.specs.declared.entry.IndexEntry.{IndexEntry}
-use Rattle.catalog_text.specs.Entries.{entry_text}
+use Rattle.catalog_spelling.specs.Entries.{entry_text}
 use Rattle.save_finish.proofs.IndexParts.{cut_part}
 use Rattle.save_finish.proofs.lengths.part_length.Goals as goal
 

@@ -4,7 +4,7 @@ use Rattle.std.specs.Ordering.{nat_cmp}
 use Rattle.room_base.specs.Ordered.{Ascends}
 use Rattle.media_db.specs.Rows.{Database, volid_of}
 use Rattle.media_db.specs.declared.volumes.VolumeRec.{VolumeRec}
-use Rattle.snapshot_reading.proofs.Storing.{none-left, put-next}
+use Rattle.snapshot_laws.proofs.Storing.{none-left, put-next}
 use Rattle.snapshot_reading.proofs.decode.db_of.Goals as goal
 
 pub loop-volume-preserved : goal.loop-volume-preserved

@@ -1,5 +1,5 @@
 use Rattle.std.proofs.Common.{arith}
-use Rattle.snapshot_reading.proofs.CatalogueRules.{is-spelled}
+use Rattle.snapshot_laws.proofs.CatalogueRules.{is-spelled}
 use Rattle.snapshot_reading.proofs.decode.read_snapshot.Goals as goal
 
 pub returns-in-Ok-snapshot_of-clause-spelled : goal.returns-in-Ok-snapshot_of-clause-spelled

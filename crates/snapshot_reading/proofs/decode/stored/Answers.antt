@@ -3,9 +3,9 @@ use Rattle.std.specs.Vec.Iter.{into_iter_items}
 use Rattle.client_index.specs.Sets.{number_of}
 use Rattle.media_db.specs.Rows.{Database, HasLowerBase, ssid_of}
 use Rattle.save_stream.specs.Spelling.{PathsAscend}
-use Rattle.snapshot_text.specs.declared.fields.ListedRecord.{ListedRecord}
-use Rattle.snapshot_text.specs.Storing.{set_of}
-use Rattle.snapshot_reading.proofs.Storing.{each-at, none-left, put-mapped, row-of, ascends-at}
+use Rattle.catalog_spelling.specs.declared.snapshot_fields.ListedRecord.{ListedRecord}
+use Rattle.catalog_spelling.specs.Storing.{set_of}
+use Rattle.snapshot_laws.proofs.Storing.{each-at, none-left, put-mapped, row-of, ascends-at}
 use Rattle.snapshot_reading.proofs.decode.stored.Goals as goal
 
 pub put_record-requires-clause-base : goal.put_record-requires-clause-base

@@ -1,6 +1,6 @@
 use Rattle.std.proofs.Common.{◌≡◌, ◌++◌, map, length}
 use Rattle.std.specs.Vec.Iter.{into_iter_items, into_iter_len}
-use Rattle.snapshot_text.specs.Storing.{set_of}
+use Rattle.catalog_spelling.specs.Storing.{set_of}
 use Rattle.snapshot_reading.proofs.decode.stored.Given as goal
 
 abbrev pub invariant-loop-listed : goal.invariant-loop-listed

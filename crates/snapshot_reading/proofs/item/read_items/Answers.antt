@@ -1,6 +1,6 @@
 use Rattle.std.proofs.Common.{[]}
 use Rattle.std.proofs.lemmas.Result.{err_from_is_err_and}
-use Rattle.catalog_text.specs.Lists.{items_at}
+use Rattle.catalog_spelling.specs.Lists.{items_at}
 use Rattle.catalog_text.proofs.Loops.{goes_on, ends, is_done}
 use Rattle.snapshot_reading.proofs.item.read_items.Goals as goal
 

@@ -1,5 +1,5 @@
 use Rattle.std.proofs.Common.{◌≡◌, ◌-◌, []}
-use Rattle.catalog_text.specs.Lists.{items_at}
+use Rattle.catalog_spelling.specs.Lists.{items_at}
 use Rattle.snapshot_reading.proofs.item.read_items.Given as goal
 
 abbrev pub invariant-loop : goal.invariant-loop

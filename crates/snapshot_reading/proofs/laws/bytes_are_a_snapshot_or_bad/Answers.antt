@@ -1,4 +1,4 @@
-use Rattle.snapshot_reading.proofs.SnapshotLaws.{fault-is, not-bad, one-place, text-or-bad}
+use Rattle.snapshot_laws.proofs.SnapshotLaws.{fault-is, not-bad, one-place, text-or-bad}
 use Rattle.snapshot_reading.proofs.laws.bytes_are_a_snapshot_or_bad.Goals as goal
 
 pub returns-clause-each : goal.returns-clause-each

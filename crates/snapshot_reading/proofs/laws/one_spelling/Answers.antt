@@ -1,4 +1,4 @@
-use Rattle.snapshot_reading.proofs.SnapshotLaws.{one-catalogue, one-text}
+use Rattle.snapshot_laws.proofs.SnapshotLaws.{one-catalogue, one-text}
 use Rattle.snapshot_reading.proofs.laws.one_spelling.Goals as goal
 
 pub returns-clause-texts : goal.returns-clause-texts

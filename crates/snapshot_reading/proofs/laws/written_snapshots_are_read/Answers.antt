@@ -1,4 +1,4 @@
-use Rattle.snapshot_reading.proofs.SnapshotLaws.{read-back}
+use Rattle.snapshot_laws.proofs.SnapshotLaws.{read-back}
 use Rattle.snapshot_reading.proofs.laws.written_snapshots_are_read.Goals as goal
 
 pub returns : goal.returns

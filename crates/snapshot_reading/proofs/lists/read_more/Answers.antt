@@ -1,5 +1,5 @@
 use Rattle.std.proofs.lemmas.Result.{err_from_is_err_and}
-use Rattle.snapshot_text.specs.Resources.{more_at, no_resources}
+use Rattle.catalog_spelling.specs.SnapshotResources.{more_at, no_resources}
 use Rattle.snapshot_reading.proofs.More.{goes_on, ends, is_done}
 use Rattle.snapshot_reading.proofs.lists.read_more.Goals as goal
 

@@ -1,6 +1,6 @@
 use Rattle.std.proofs.Common.{◌≡◌, ◌-◌}
-use Rattle.snapshot_text.specs.Lists.{AreInOrder}
-use Rattle.snapshot_text.specs.Resources.{more_at, no_resources}
+use Rattle.catalog_spelling.specs.SnapshotOrder.{AreInOrder}
+use Rattle.catalog_spelling.specs.SnapshotResources.{more_at, no_resources}
 use Rattle.snapshot_reading.proofs.lists.read_more.Given as goal
 
 abbrev pub invariant-loop : goal.invariant-loop

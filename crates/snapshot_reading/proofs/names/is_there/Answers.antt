@@ -2,7 +2,7 @@ use Rattle.std.proofs.Common.{sym, ap}
 use Rattle.std.specs.Prelude.{is_some}
 use Rattle.std.specs.Cmp.Lexicographic.{nat_list_cmp_total}
 use Rattle.room_base.proofs.OrderedSearch.{none_at}
-use Rattle.snapshot_reading.proofs.Ordered.{some_at}
+use Rattle.snapshot_laws.proofs.Ordered.{some_at}
 use Rattle.snapshot_reading.proofs.names.is_there.Goals as goal
 
 pub returns-in-Ok : goal.returns-in-Ok

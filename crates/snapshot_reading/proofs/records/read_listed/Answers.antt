@@ -1,5 +1,5 @@
 use Rattle.std.proofs.Common.{arith}
-use Rattle.snapshot_reading.proofs.Found.{is-head}
+use Rattle.snapshot_laws.proofs.Found.{is-head}
 use Rattle.snapshot_reading.proofs.records.read_listed.Goals as goal
 
 pub read_fields-requires : goal.read_fields-requires

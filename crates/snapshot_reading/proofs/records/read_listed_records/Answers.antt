@@ -1,5 +1,5 @@
 use Rattle.std.proofs.Common.{arith}
-use Rattle.snapshot_reading.proofs.Storing.{records-listed}
+use Rattle.snapshot_laws.proofs.Storing.{records-listed}
 use Rattle.snapshot_reading.proofs.records.read_listed_records.Goals as goal
 
 pub returns-in-Ok-clause-listed : goal.returns-in-Ok-clause-listed

@@ -1,10 +1,10 @@
 use Rattle.std.proofs.Common.{[], List, ℕ}
 use Rattle.std.proofs.lemmas.Result.{err_from_is_err_and}
 use Rattle.room_rules.specs.declared.group.Member.{Member}
-use Rattle.catalog_text.specs.Reading.{Part}
-use Rattle.catalog_text.specs.Lists.{items_at}
+use Rattle.catalog_spelling.specs.Reading.{Part}
+use Rattle.catalog_spelling.specs.Lists.{items_at}
 use Rattle.catalog_text.proofs.Loops.{goes_on, ends, is_done}
-use Rattle.snapshot_text.specs.Resources.{member_at}
+use Rattle.catalog_spelling.specs.SnapshotResources.{member_at}
 use Rattle.snapshot_reading.proofs.resource_reading.read_each_member.Goals as goal
 
 pub returns-in_err-item : goal.returns-in_err-item

@@ -1,6 +1,6 @@
 use Rattle.std.proofs.Common.{◌≡◌, ◌-◌, []}
-use Rattle.catalog_text.specs.Lists.{items_at}
-use Rattle.snapshot_text.specs.Resources.{member_at}
+use Rattle.catalog_spelling.specs.Lists.{items_at}
+use Rattle.catalog_spelling.specs.SnapshotResources.{member_at}
 use Rattle.snapshot_reading.proofs.resource_reading.read_each_member.Given as goal
 
 abbrev pub invariant-loop : goal.invariant-loop

@@ -1,5 +1,5 @@
 use Rattle.std.proofs.Common.{arith}
-use Rattle.snapshot_reading.proofs.Storing.{volumes-ascend}
+use Rattle.snapshot_laws.proofs.Storing.{volumes-ascend}
 use Rattle.snapshot_reading.proofs.volumes.read_listed_volumes.Goals as goal
 
 pub returns-in-Ok-clause-order : goal.returns-in-Ok-clause-order

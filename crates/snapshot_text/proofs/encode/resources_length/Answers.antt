@@ -1,5 +1,5 @@
 use Rattle.std.proofs.Common.{arith}
-use Rattle.snapshot_text.specs.Snapshots.{catalogue_lent, lists_of}
+use Rattle.catalog_spelling.specs.Snapshots.{catalogue_lent, lists_of}
 use Rattle.snapshot_text.proofs.Lengths.{length_lists}
 use Rattle.snapshot_text.proofs.encode.resources_length.Goals as goal
 

@@ -1,5 +1,5 @@
 use Rattle.snapshot_text.proofs.CanWrite.{rows_can, volumes_can}
-use Rattle.snapshot_text.proofs.Fitting.{indexes_fit, rows_fit}
+use Rattle.snapshot_laws.proofs.Fitting.{indexes_fit, rows_fit}
 use Rattle.snapshot_text.proofs.encode.snapshot_into.Goals as goal
 
 pub put_volumes-requires-clause-allowed : goal.put_volumes-requires-clause-allowed

@@ -1,5 +1,5 @@
 use Rattle.std.proofs.Common.{arith}
-use Rattle.snapshot_text.specs.Snapshots.{catalogue_lent}
+use Rattle.catalog_spelling.specs.Snapshots.{catalogue_lent}
 use Rattle.snapshot_text.proofs.CanWrite.{rows_can, volumes_can}
 use Rattle.snapshot_text.proofs.Lengths.{length_snapshot}
 use Rattle.snapshot_text.proofs.encode.snapshot_length.Goals as goal

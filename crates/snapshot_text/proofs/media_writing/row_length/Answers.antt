@@ -5,7 +5,7 @@ use Rattle.media_db.specs.Streams.{head_of}
 use Rattle.media_db.specs.declared.copies.SetCopy.{SetCopy}
 use Rattle.save_stream.specs.Spelling.{head_text}
 use Rattle.save_stream.specs.declared.head.SetHead.{SetHead}
-use Rattle.snapshot_text.specs.Media.{copy_text}
+use Rattle.catalog_spelling.specs.Media.{copy_text}
 use Rattle.snapshot_text.proofs.Lengths.{length_row}
 use Rattle.snapshot_text.proofs.media_writing.row_length.Goals as goal
 

@@ -1,0 +1,12 @@
+pub mod Steps
+pub mod Fields
+pub mod Lists
+pub mod Behind
+pub mod SectionLaws
+pub mod EntryLaws
+pub mod KindLaws
+pub mod ResourceLaws
+pub mod HeadLaws
+pub mod ChangeLaws
+pub mod Decodes
+pub mod ChangeTexts

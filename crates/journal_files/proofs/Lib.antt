@@ -1,0 +1,4 @@
+pub mod Single
+pub mod Alike
+pub mod Once
+pub mod Snapshots
