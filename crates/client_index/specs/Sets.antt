@@ -1,8 +1,8 @@
 -- The indexes of save sets, as a list in the order of their numbers.
-use Rattle.std.specs.Prelude.{ℕ, List, [], Option, unwrap_or}
-use Rattle.std.specs.List.{AllByRecursion}
+use Rattle.std.specs.Prelude.{ℕ, Bool, List, [], ◌∷◌, Option, unwrap_or}
+use Rattle.std.specs.List.{AllByRecursion, list_any}
 use Rattle.std.specs.Option.{option_map}
-use Rattle.std.specs.Ordering.{nat_cmp}
+use Rattle.std.specs.Ordering.{eq_by_cmp, nat_cmp}
 use Rattle.room_base.specs.Ordered.{Ascends, find_by, put_by, remove_by}
 use Rattle.room_base.specs.declared.numbers.Ssid.{Ssid}
 use Rattle.save_stream.specs.declared.entry.IndexEntry.{IndexEntry}
@@ -37,3 +37,16 @@ put sets new = put_by nat_cmp number_of new sets
 -- the indexes without that of a set
 abbrev pub forget : List SetIndex → Ssid → List SetIndex
 forget sets ssid = remove_by nat_cmp number_of ssid.0 sets
+
+-- the indexes without those of these sets
+abbrev pub forget_each : List Ssid → List SetIndex → List SetIndex
+forget_each [] sets = sets
+forget_each (ssid ∷ ssids) sets = forget_each ssids (forget sets ssid)
+
+-- the numbers of sets ascend strictly
+abbrev pub AreAscending : List Ssid → Type 0
+AreAscending ssids = Ascends nat_cmp (λ ssid. ssid.0) ssids
+
+-- the set is one of these
+abbrev pub is_one_of : List Ssid → Ssid → Bool
+is_one_of ssids ssid = list_any (λ one. eq_by_cmp nat_cmp ssid.0 one.0) ssids

@@ -5,7 +5,8 @@ ghost use Rattle.std.specs.Prelude.{option_copied};
 ghost use Rattle.std.specs.Ordering.{nat_cmp};
 ghost use Rattle.room_base.specs.Ordered.{IsPlace};
 ghost use Rattle.save_stream.specs.Spelling.{PathsAscend};
-ghost use Rattle.client_index.specs.Sets.{AreOrdered, entries_of, forget, number_of, put};
+ghost use Rattle.client_index.specs.Sets.{AreAscending, AreOrdered, entries_of, forget, forget_each};
+ghost use Rattle.client_index.specs.Sets.{is_one_of, number_of, put};
 ghost use Rattle.client_index.specs.View.{chain_of, seen_of, view, AreFirstSeen};
 ghost use Rattle.client_index.specs.Walk.{EachAscendsFrom, DecideAlike, added, rests_of};
 
@@ -95,6 +96,15 @@ impl ClientIndex {
         }
     }
 
+    /// Takes the indexes of these sets away, those that have one, in one pass. Takes no memory.
+    pub fn forget_each(&mut self, ssids: &[Ssid])
+        requires { AreAscending ssids.now }
+        ensures sets { self.new.sets ≡ forget_each ssids.now self.old.sets }
+        ensures room { self.old.room ≤ self.new.room }
+    {
+        self.sets.retain(|set| !is_one_of(ssids, set.ssid));
+    }
+
     /// The entries of a set, if it has an index.
     pub fn entries(&self, ssid: Ssid) -> Option<&[IndexEntry]>
         ensures value { option_copied result ≡ entries_of self.now.sets ssid }
@@ -166,6 +176,13 @@ impl ClientIndex {
     {
         self.sets.binary_search_by_key(&ssid.0, |set| set.ssid.0)
     }
+}
+
+// Whether the set is one of these, whose numbers ascend.
+fn is_one_of(ssids: &[Ssid], ssid: Ssid) -> bool
+    ensures { AreAscending ssids.now → result ≡ is_one_of ssids.now ssid }
+{
+    ssids.binary_search_by_key(&ssid.0, |one| one.0).is_ok()
 }
 
 // Adds the path of an entry with what it shows, if it isn't gone.

@@ -23,12 +23,12 @@ use Rattle.media_db.specs.Edits.{has_copy_if_complete, purged_by, without_copies
 use Rattle.media_db.specs.Rows.{find_record, find_volume, put_row, put_volume, remove_row, ssid_of, update_row, volid_of}
 use Rattle.media_db.proofs.Dropped.{found_dropped}
 use Rattle.client_index.specs.declared.index.SetIndex.{SetIndex}
-use Rattle.client_index.specs.Sets.{entries_of, forget, put}
+use Rattle.client_index.specs.Sets.{entries_of, forget, forget_each, put}
 use Rattle.client_index.proofs.Shown.{entries_of-forget, entries_of-put}
 use Rattle.catalog_change.specs.declared.slot.FilledSlot.{FilledSlot}
 use Rattle.catalog_change.specs.Catalogues.{slot_number}
 use Rattle.room_catalog.specs.Applying.{edited_at, index_of_row, is_among, is_gone, row_off, row_off_gone}
-use Rattle.room_catalog.specs.Changing.{forget_each, forget_off, forget_row_off, purge_each, records_off, sets_off, volumes_off}
+use Rattle.room_catalog.specs.Changing.{forget_off, forget_row_off, purge_each, records_off, sets_off, volumes_off}
 use Rattle.room_catalog.specs.Fits.{find_slot}
 use Rattle.room_catalog.specs.Held.{index_in}
 use Rattle.resource_lists.specs.Kinds.{find_named, put_each, put_named}

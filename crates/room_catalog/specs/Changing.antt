@@ -28,7 +28,7 @@ use Rattle.media_db.specs.Rows.{
 use Rattle.media_db.specs.declared.records.Record.{Record}
 use Rattle.media_db.specs.declared.volumes.VolumeRec.{VolumeRec}
 use Rattle.client_index.specs.declared.index.SetIndex.{SetIndex}
-use Rattle.client_index.specs.Sets.{forget, put}
+use Rattle.client_index.specs.Sets.{forget, forget_each, put}
 use Rattle.catalog_change.specs.declared.change.Change.{Change}
 use Rattle.catalog_change.specs.declared.change.Change.TheVariants.{
   Defined,
@@ -95,10 +95,6 @@ abbrev pub purge_each : ℕ → List Ssid → List Record → List Record
 purge_each number [] records = records
 purge_each number (ssid ∷ ssids) records =
     purge_each number ssids (update_row ssid.0 (purged_by number) records)
-
-abbrev pub forget_each : List Ssid → List SetIndex → List SetIndex
-forget_each [] sets = sets
-forget_each (ssid ∷ ssids) sets = forget_each ssids (forget sets ssid)
 
 abbrev pub with_row_edited : Ssid → (Record → Record) → CatalogueLists → CatalogueLists
 with_row_edited ssid edit lists =

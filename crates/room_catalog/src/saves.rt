@@ -2,7 +2,8 @@
 
 ghost use Rattle.std.specs.Prelude.{◌≡◌, ◌<◌, ◌≤◌, [], vec_capacity};
 ghost use Rattle.room_catalog.specs.Applying.{begun_row};
-ghost use Rattle.room_catalog.specs.Changing.{forget_each, purge_each};
+ghost use Rattle.client_index.specs.Sets.{AreAscending, forget_each};
+ghost use Rattle.room_catalog.specs.Changing.{purge_each};
 
 use client_index::ClientIndex;
 use media_db::{CopyState, MediaDb, Record, RecordState, SetCopy};
@@ -49,6 +50,7 @@ pub(crate) fn begun_record(head: SetHead, copies: Vec<SetCopy>) -> Record
 
 /// The indexes of these sets are given up, by the journal's entry of this number.
 pub(crate) fn purge(db: &mut MediaDb, index: &mut ClientIndex, ssids: &[Ssid], number: u64)
+    requires { AreAscending ssids.now }
     ensures records { db.new.records ≡ purge_each number ssids.now db.old.records }
     ensures volumes { db.new.volumes ≡ db.old.volumes }
     ensures record_room { db.new.record_room ≡ db.old.record_room }
@@ -58,6 +60,6 @@ pub(crate) fn purge(db: &mut MediaDb, index: &mut ClientIndex, ssids: &[Ssid], n
 {
     for ssid in ssids {
         db.purge(*ssid, number);
-        index.forget(*ssid);
     }
+    index.forget_each(ssids);
 }

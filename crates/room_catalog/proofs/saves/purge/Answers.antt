@@ -1,11 +1,9 @@
-use Rattle.std.proofs.Common.{◌∙◌, List, get_or, refl, sym, ap, arith}
+use Rattle.std.proofs.Common.{◌∙◌, List, get_or, refl, sym, ap}
 use Rattle.media_db.specs.declared.records.Record.{Record}
 use Rattle.media_db.specs.Edits.{purged_by}
 use Rattle.media_db.specs.Rows.{Database, update_row}
-use Rattle.client_index.specs.Sets.{forget}
-use Rattle.client_index.specs.declared.index.SetIndex.{SetIndex}
 use Rattle.room_base.specs.declared.numbers.Ssid.{Ssid}
-use Rattle.room_catalog.specs.Changing.{forget_each, purge_each}
+use Rattle.room_catalog.specs.Changing.{purge_each}
 use Rattle.room_catalog.proofs.Stepping.{walk_at}
 use Rattle.room_catalog.proofs.saves.purge.Goals as goal
 
@@ -15,12 +13,9 @@ loop-ssid-preserved c =
     let i = c.loop-ssid.ssid-index in
     let purge = λ (ssid : Ssid) (rows : List Record). update_row ssid.0 (purged_by c.args.number) rows in
     let rows = walk_at purge (purge_each c.args.number) (λ s. refl) (λ x xs s. refl) ssids i (record { 0 = 0 }) c.args.db.now.records c.loop-ssid-test.true in
-    let sets = walk_at (λ (ssid : Ssid) (sets : List SetIndex). forget sets ssid) forget_each (λ s. refl) (λ x xs s. refl) ssids i (record { 0 = 0 }) c.args.index.now.sets c.loop-ssid-test.true in
     record {
       records = ap (λ (db : Database). db.records) c.purge.ensures ∙ ap (purge (get_or ssids i (record { 0 = 0 }))) c.loop-ssid.invariant.records ∙ sym rows;
       volumes = ap (λ (db : Database). db.volumes) c.purge.ensures ∙ c.loop-ssid.invariant.volumes;
       record_room = ap (λ (db : Database). db.record_room) c.purge.ensures ∙ c.loop-ssid.invariant.record_room;
       volume_room = ap (λ (db : Database). db.volume_room) c.purge.ensures ∙ c.loop-ssid.invariant.volume_room;
-      sets = c.forget.ensures.sets ∙ ap (λ (sets : List SetIndex). forget sets (get_or ssids i (record { 0 = 0 }))) c.loop-ssid.invariant.sets ∙ sym sets;
-      index_room = omega arith;
     }

@@ -1,5 +1,5 @@
-use Rattle.std.proofs.Common.{◌≡◌, ◌≤◌, take}
-use Rattle.room_catalog.specs.Changing.{forget_each, purge_each}
+use Rattle.std.proofs.Common.{◌≡◌, take}
+use Rattle.room_catalog.specs.Changing.{purge_each}
 use Rattle.room_catalog.proofs.saves.purge.Given as goal
 
 abbrev pub invariant-loop-ssid : goal.invariant-loop-ssid
@@ -8,6 +8,4 @@ invariant-loop-ssid l = record {
   volumes : l.db.volumes ≡ l.fn.db.volumes;
   record_room : l.db.record_room ≡ l.fn.db.record_room;
   volume_room : l.db.volume_room ≡ l.fn.db.volume_room;
-  sets : l.index.sets ≡ forget_each (take l.ssid-index l.ssids) l.fn.index.sets;
-  index_room : l.fn.index.room ≤ l.index.room;
 }
