@@ -17,7 +17,7 @@ use Rattle.volume_store.specs.declared.marks.MountFault.{MountFault}
 use Rattle.volume_store.specs.declared.marks.MountFault.TheVariants as mounts
 use Rattle.room_effects.specs.View.{RoomView}
 use Rattle.room_effects.specs.Effects.{Done, Broken, Look, Seen, SeenLabel, SeenVolume, WriteLabel}
-use Rattle.room_effects.specs.Files.{IsSeen, Sees, Touches}
+use Rattle.room_effects.specs.Files.{IsMounted, IsSeen, Sees, Touches}
 use Rattle.room_effects.specs.Needs.{CanDo}
 use Rattle.room_effects.specs.Running.{Crashed, Does, FromOne, Known, Ready, Stands, known_of}
 use Rattle.room_effects.proofs.Does.{does_broken, does_done, failures_of_broken}
@@ -173,6 +173,12 @@ settles (Err mounts.Unlabelled) disk file done settled = settled
 settles (Err (mounts.BadBlock number)) disk file done settled = settled
 settles (Err mounts.Failed) disk file done settled = absurd (done refl)
 
+seen_on : (cart : ℕ) (answer : Result Volume MountFault) (bytes : List ℕ) → ¬ (answer ≡ Err mounts.Failed) → Mounts bytes cart answer → IsMounted cart answer bytes
+seen_on cart (Ok volume) bytes done mounted = mounted
+seen_on cart (Err mounts.Unlabelled) bytes done mounted = mounted
+seen_on cart (Err (mounts.BadBlock number)) bytes done mounted = mounted
+seen_on cart (Err mounts.Failed) bytes done mounted = absurd (done refl)
+
 -- a cartridge was mounted, or is one that can't be
 pub does_look_volume : {T : Type 0} (cart : ℕ) (answer : Result Volume MountFault) (value : T) (room : RoomView) (before now : DiskView)
     → CanDo (Look cart (SeenVolume answer)) room → ¬ (answer ≡ Err mounts.Failed)
@@ -181,7 +187,7 @@ pub does_look_volume : {T : Type 0} (cart : ℕ) (answer : Result Volume MountFa
     → Does {T = T} (Look cart (SeenVolume answer) ∷ []) (Ok value) room room before now
 does_look_volume {T} cart answer value room before now can done cause tells quiet settled mounted =
     does_look {T = T} cart (SeenVolume answer) value room before now can (record { later = cause.later; tells = tells; quiet = quiet })
-    (λ told. record { settled = settles answer now (cart_file cart) done (settled told); is = mounted told })
+    (λ told. record { settled = settles answer now (cart_file cart) done (settled told); is = seen_on cart answer (before.reads (cart_file cart)) done (mounted told) })
 
 pub does_look_volume_broken : {T : Type 0} (cart : ℕ) (seen : Seen) (answer : Result Volume MountFault) (room : RoomView) (before now : DiskView)
     → CanDo (Look cart seen) room → answer ≡ Err mounts.Failed

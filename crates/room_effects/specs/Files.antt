@@ -1,12 +1,15 @@
 -- Which file an effect writes or reads, what it makes of the file's bytes, and what is left of them
 -- where it is cut short.
 use Rattle.std.specs.Prelude.{◌≡◌, ◌≢◌, ℕ, ◌==◌, Bool, true, false, List, if◌then◌else◌}
-use Rattle.std.specs.Prelude.{Option, Some, None}
+use Rattle.std.specs.Prelude.{Option, Some, None, Result, Err}
 use Rattle.std.specs.Option.{option_map}
 use Rattle.room_disk.specs.Crash.{IsAnew, AnewTorn}
 use Rattle.room_disk.specs.Disk.{Image}
 use Rattle.volume_store.specs.Reads.{Finds, Mounts}
 use Rattle.volume_store.specs.Writes.{cart_file, IsBeingLabelled, Relabels}
+use Rattle.volume_store.specs.declared.commit.Volume.{Volume}
+use Rattle.volume_store.specs.declared.marks.MountFault.{MountFault}
+use Rattle.volume_store.specs.declared.marks.MountFault.TheVariants as mounts
 use Rattle.cat_journal.specs.Journal.{
   JournalView,
   AddsEntry,
@@ -86,10 +89,15 @@ abbrev pub MayCommit : Option DriveView → List ℕ → List ℕ → Type 0
 MayCommit None = IsSame
 MayCommit (Some one) = MayAddBuffer one
 
+-- mounting a cartridge with these bytes gives this; a failure has seen nothing
+abbrev pub IsMounted : ℕ → Result Volume MountFault → List ℕ → Type 0
+IsMounted cart (Err mounts.Failed) bytes = ⊥
+IsMounted cart answer bytes = Mounts bytes cart answer
+
 -- this is found on a cartridge with these bytes
 abbrev pub IsSeen : ℕ → Seen → List ℕ → Type 0
 IsSeen cart (SeenLabel found) bytes = Finds bytes found
-IsSeen cart (SeenVolume answer) bytes = Mounts bytes cart answer
+IsSeen cart (SeenVolume answer) bytes = IsMounted cart answer bytes
 
 -- the cartridge's bytes are as before, and this is found on it
 abbrev pub Sees : ℕ → Seen → List ℕ → List ℕ → Type 0

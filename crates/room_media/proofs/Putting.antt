@@ -1,6 +1,6 @@
 -- What is put into a drive.
-use Rattle.std.proofs.Common.{◌≡◌, ℕ, ◌≤◌, sym, ap, subst}
-use Rattle.std.specs.Prelude.{Option, None, IfOk, IsTrue, Result, Ok, Err}
+use Rattle.std.proofs.Common.{◌≡◌, ℕ, ◌≤◌, refl, sym, ap, subst}
+use Rattle.std.specs.Prelude.{◌≢◌, Option, None, IfOk, IsTrue, Result, Ok, Err}
 use Rattle.room_base.specs.declared.numbers.Cart.{Cart}
 use Rattle.room_base.specs.declared.refusal.Refusal.{Refusal}
 use Rattle.media_db.specs.declared.volumes.VolumeRec.{VolumeRec}
@@ -14,7 +14,7 @@ use Rattle.room_effects.specs.View.{RoomView, held_in}
 use Rattle.room_effects.specs.Effects.{PutIn}
 use Rattle.room_effects.specs.Needs.{CanDo, IsInNoDrive}
 use Rattle.room_effects.specs.Checked.{behind_check}
-use Rattle.room_media.specs.Mounting.{IsOn, mounted_own, own_label}
+use Rattle.room_media.specs.Mounting.{IsLookedAt, IsOn, mounted_own, own_label}
 
 -- the volume that is the one on record is the one that mounting gave
 pub own_is : (volume : Option VolumeRec) (cart : Cart) (answer : Result Volume MountFault) (mounted : Volume) → Ok mounted ≡ mounted_own volume cart answer → answer ≡ Ok mounted
@@ -51,9 +51,11 @@ can_put drive cart room answer volume is opens is_drive empty is_cart in_no_driv
 
 -- ---- on which cartridge
 
-pub is_on : (cart : Cart) (answer : Result Volume MountFault) → IfOk answer (λ v. v.cart ≡ cart) → IsOn (Ok cart) answer
-is_on cart (Ok mounted) same = same
-is_on cart (Err fault) same = tt
+pub looked_at : (cart : Cart) (answer : Result Volume MountFault) → answer ≢ Err mounts.Failed → IfOk answer (λ v. v.cart ≡ cart) → IsLookedAt cart answer
+looked_at cart (Ok mounted) done same = same
+looked_at cart (Err mounts.Unlabelled) done same = tt
+looked_at cart (Err (mounts.BadBlock number)) done same = tt
+looked_at cart (Err mounts.Failed) done same = absurd (done refl)
 
 pub none_on : (cart : Result Cart Refusal) → IsOn cart (Err mounts.Unlabelled)
 none_on (Ok cart) = tt

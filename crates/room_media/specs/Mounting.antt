@@ -103,10 +103,16 @@ abbrev pub mount_plan : ℕ → ℕ → Found → Result Volume MountFault → R
 mount_plan slot drive found answer room = checked (mount_checks slot drive room)
     (λ cart. cart_plan drive found answer (volume_on cart.0 room.catalogue.volumes) cart)
 
--- a volume that mounting gives is on the cartridge that the checks came to
+-- what a look at a cartridge gave: a volume is on that cartridge, and a failure is none
+abbrev pub IsLookedAt : Cart → Result Volume MountFault → Type 0
+IsLookedAt cart (Ok mounted) = mounted.cart ≡ cart
+IsLookedAt cart (Err mounts.Failed) = ⊥
+IsLookedAt cart (Err other) = Unit {0}
+
+-- the same of the cartridge that the checks came to
 abbrev pub IsOn : Result Cart Refusal → Result Volume MountFault → Type 0
-IsOn (Ok cart) (Ok mounted) = mounted.cart ≡ cart
-IsOn cart answer = Unit {0}
+IsOn (Ok cart) answer = IsLookedAt cart answer
+IsOn (Err refusal) answer = Unit {0}
 
 -- the plan for some label and some volume, which are found on the cartridge where they are looked at
 abbrev pub IsMountPlan : ℕ → ℕ → RoomView → Plan → Type 0

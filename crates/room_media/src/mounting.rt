@@ -13,7 +13,7 @@ ghost use Rattle.room_effects.specs.Needs.{IsInNoDrive};
 ghost use Rattle.room_effects.specs.Checked.{ComesTo};
 ghost use Rattle.room_effects.specs.Plans.{Plan, Follows};
 ghost use Rattle.room_media.specs.Mounting.{IsMountPlan, cart_plan, is_drive, mount_checks};
-ghost use Rattle.room_media.specs.Mounting.{volume_plan};
+ghost use Rattle.room_media.specs.Mounting.{IsLookedAt, volume_plan};
 
 use crate::drives::free_cart;
 use crate::labels::{found_own, mounted_own, volume_on};
@@ -74,7 +74,7 @@ fn mount_cart<D: Store>(room: &mut RoomState, store: &mut D, drive: u8, cart: Ca
     requires cart { IsCart cart.0 }
     requires in_no_drive { IsInNoDrive cart.0 room.old.room }
     ensures { (found : Found) × (answer : Result Volume MountFault)
-        × IfOk answer (λ mounted. mounted.cart ≡ cart) × Follows (cart_plan drive found answer
+        × IsLookedAt cart answer × Follows (cart_plan drive found answer
         (volume_on cart.0 room.old.room.catalogue.volumes) cart) result
         room.old.room room.new.room (D.view store.old) (D.view store.new) }
 {
@@ -95,7 +95,7 @@ fn mount_volume<D: Store>(room: &mut RoomState, store: &mut D, drive: u8, cart: 
     requires cart { IsCart cart.0 }
     requires in_no_drive { IsInNoDrive cart.0 room.old.room }
     ensures { (answer : Result Volume MountFault)
-        × IfOk answer (λ mounted. mounted.cart ≡ cart) × Follows (volume_plan drive answer
+        × IsLookedAt cart answer × Follows (volume_plan drive answer
         (volume_on cart.0 room.old.room.catalogue.volumes) cart) result
         room.old.room room.new.room (D.view store.old) (D.view store.new) }
 {

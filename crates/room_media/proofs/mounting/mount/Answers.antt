@@ -9,7 +9,7 @@ use Rattle.volume_store.specs.declared.marks.MountFault.{MountFault}
 use Rattle.volume_store.specs.declared.marks.MountFault.TheVariants as mounts
 use Rattle.room_effects.proofs.Checking.{came_to, follows_checked, follows_checks}
 use Rattle.room_media.specs.Mounting.{IsOn, cart_plan, mount_checks, mount_plan}
-use Rattle.room_media.proofs.Putting.{is_on, none_on}
+use Rattle.room_media.proofs.Putting.{none_on}
 use Rattle.room_media.proofs.mounting.mount.Goals as goal
 
 pub returns-in-Err : goal.returns-in-Err
@@ -32,7 +32,7 @@ returns-in-Ok g c =
     let is : ◌≡◌ {A = Result Cart Refusal} (Ok cart) checks = came_to checks cart c.in-Ok.ensures.checks in
     let O : Result Cart Refusal → Type 0 = λ one. IsOn one answer in (
       mount_plan c.args.slot c.args.drive found answer room,
-      (found, answer, subst O is (is_on cart answer c.mount_cart.ensures.2), refl),
+      (found, answer, subst O is c.mount_cart.ensures.2, refl),
       follows_checked {X = Cart} checks (λ one. cart_plan c.args.drive found answer (volume_on one.0 room.catalogue.volumes) one) cart c.mount_cart.result room c.mount_cart.new.room.room
           (g.D.Store.view c.args.store.now) (g.D.Store.view c.mount_cart.new.store) is c.mount_cart.ensures.3,
     )

@@ -16,7 +16,7 @@ use Rattle.room_effects.specs.Plans.{Follows}
 use Rattle.room_effects.proofs.Checking.{follows_behind, follows_checked, follows_unread}
 use Rattle.room_effects.proofs.Following.{follows_done, follows_no_memory}
 use Rattle.room_media.specs.Mounting.{mounted_own, put_in_plan}
-use Rattle.room_media.proofs.Putting.{can_put, own_is}
+use Rattle.room_media.proofs.Putting.{can_put, looked_at, own_is}
 use Rattle.room_media.proofs.mounting.mount_volume.Goals as goal
 
 pub returns-in-Ok-put_in : goal.returns-in-Ok-put_in
@@ -34,7 +34,7 @@ returns-in-Ok-put_in g c =
     c.requires.cart c.requires.in_no_drive c.in-Ok.ensures.cart c.in-Ok.ensures.label c.in-Ok.ensures.mark in
     let reply = Done (Mounted c.args.drive mounted.label.volid) in (
       answer,
-      c.in-Ok.ensures.cart,
+      looked_at c.args.cart answer c.in-Ok.ensures.reads c.in-Ok.ensures.cart,
       follows_behind c.args.cart.0 (SeenVolume answer) room {T = Result Volume MountFault} answer
           (checked {X = Volume} (mounted_own volume c.args.cart answer) (put_in_plan c.args.drive)) reply new before mid mid c.in-Ok.ensures.seen
           (follows_checked {X = Volume} (mounted_own volume c.args.cart answer) (put_in_plan c.args.drive) mounted reply room new mid mid is
@@ -52,7 +52,7 @@ returns-in-Err-put_in g c =
     let rest = checked {X = Volume} (mounted_own volume c.args.cart answer) (put_in_plan c.args.drive) in
     let F : RoomView → Type 0 = λ now. Follows rest (Refused NoMemory) room now mid mid in (
       answer,
-      c.in-Ok.ensures.cart,
+      looked_at c.args.cart answer c.in-Ok.ensures.reads c.in-Ok.ensures.cart,
       follows_behind c.args.cart.0 (SeenVolume answer) room {T = Result Volume MountFault} answer rest (Refused NoMemory) c.put_in.new.self.room before mid mid
           c.in-Ok.ensures.seen (subst F (sym c.in-Err-put_in.ensures.kept) (follows_no_memory rest room mid)),
     )
