@@ -1,5 +1,5 @@
 -- Bytes that are taken until they begin with a head.
-use Rattle.std.proofs.Common.{◌≡◌, ◌≢◌, ℕ, ◌<◌, inl, inr, List, [], ◌∷◌, ◌++◌, Result, length, take, Option, None, Some, Ok, Err, refl, sym, ap, subst, ◌∙◌, arith, append-nil, length-append}
+use Rattle.std.proofs.Common.{◌≡◌, ◌≢◌, ℕ, ◌<◌, ◌⊎◌, inl, inr, List, [], ◌∷◌, ◌++◌, Result, length, take, Option, None, Some, Ok, Err, refl, sym, ap, subst, ◌∙◌, arith, append-nil, length-append}
 use Rattle.std.proofs.lemmas.List.{nil_from_length}
 use Rattle.std.proofs.Math.Seq.{take-append_seam}
 use Rattle.httparse.specs.Grammar.{RequestHead, IsRequestHead, print_request, print_end}
@@ -37,15 +37,17 @@ took_none source = record { taken = sym (append-nil source.taken); left = refl }
 
 -- a fault of the search
 pub search_failed : (old new : SourceView) (before after more : List ℕ) (fault : RequestFault) → after ≡ before ++ more → Told old.tells (Took old new more)
-    → FindsHead after (Err fault) → 0 < length after → ReadsHead old new before after (Err fault)
-search_failed old new before after more Bad added took never some = record {
+    → HasNoHead before ⊎ (more ≡ []) → FindsHead after (Err fault) → 0 < length after → ReadsHead old new before after (Err fault)
+search_failed old new before after more Bad added took still never some = record {
   more = more;
   added = added;
   took = took;
   finds = (has_bytes after some, none_of_never after never, inl never);
+  still = still;
 }
-search_failed old new before after more ReadFault added took never some = absurd never
-search_failed old new before after more Memory added took never some = record { more = more; added = added; took = took; finds = tt }
+search_failed old new before after more ReadFault added took still never some = absurd never
+search_failed old new before after more Memory added took still never some =
+    record { more = more; added = added; took = took; finds = tt; still = still }
 
 -- one piece more
 pub piece_more : (old mid new : SourceView) (more other : List ℕ) → mid.tells ≡ old.tells → Told old.tells (Took old mid more)
@@ -71,11 +73,18 @@ none_added bytes after more added empty none =
 
 -- the source has ended, and no head is among the last bytes
 pub head_ended : (old new : SourceView) (before after more : List ℕ) (answer : Result (Option Head) RequestFault) → after ≡ before ++ more
-    → Told old.tells (Took old new more) → HasNoHead after → HasEnded new → EndsAs after answer → ReadsHead old new before after answer
-head_ended old new before after more (Ok None) added took none ended ends =
-    record { more = more; added = added; took = took; finds = (ends, ended) }
-head_ended old new before after more (Ok (Some found)) added took none ended ends = absurd ends
-head_ended old new before after more (Err Bad) added took none ended ends =
-    record { more = more; added = added; took = took; finds = (ends, none, inr ended) }
-head_ended old new before after more (Err ReadFault) added took none ended ends = absurd ends
-head_ended old new before after more (Err Memory) added took none ended ends = absurd ends
+    → Told old.tells (Took old new more) → HasNoHead before → HasNoHead after → HasEnded new → EndsAs after answer → ReadsHead old new before after answer
+head_ended old new before after more (Ok None) added took first none ended ends =
+    record { more = more; added = added; took = took; finds = (ends, ended); still = inl first }
+head_ended old new before after more (Ok (Some found)) added took first none ended ends = absurd ends
+head_ended old new before after more (Err Bad) added took first none ended ends =
+    record { more = more; added = added; took = took; finds = (ends, none, inr ended); still = inl first }
+head_ended old new before after more (Err ReadFault) added took first none ended ends = absurd ends
+head_ended old new before after more (Err Memory) added took first none ended ends = absurd ends
+
+-- what was searched last had no head, so that at first there was none either, or it is the same
+pub none_at_first : (before items more : List ℕ) → items ≡ before ++ more → HasNoHead before ⊎ (more ≡ []) → HasNoHead items → HasNoHead before
+none_at_first before items more added still none = elim still [
+  | inl first ↦ first
+  | inr empty ↦ subst HasNoHead (added ∙ ap (λ b. before ++ b) empty ∙ append-nil before) none
+]

@@ -26,9 +26,12 @@ Reads hand after left (Err Bad) =
 Reads hand after left (Err ReadFault) = HasNoFirst hand × IsFront after hand
 Reads hand after left (Err Memory) = after ≡ hand
 
--- a call that reads a request took some bytes, and answers by them
+-- A call that reads a request took some bytes, and answers by them. Where what the buffer had begins
+-- with a whole request, it took none.
 pub record ReadsOne (old new : SourceView) (before after : List ℕ)
     (answer : Result (Option RequestText) RequestFault) : Type 0 where
   pub more : List ℕ
   pub took : Took old new more
   pub reads : Reads (before ++ more) after new.left answer
+  pub still : (front rest : List ℕ) (request : RequestText) → before ≡ front ++ rest
+      → IsRequest front request → more ≡ []

@@ -1,5 +1,5 @@
 -- What the calls do of which a request's reading is made.
-use Rattle.std.specs.Prelude.{◌≡◌, ◌≢◌, ◌⊎◌, ℕ, ◌+◌, ◌-◌, ◌<◌, List, [], ◌++◌, length, take, drop}
+use Rattle.std.specs.Prelude.{◌≡◌, ◌≢◌, ◌⊎◌, ℕ, ◌+◌, ◌-◌, ◌<◌, ◌≤◌, List, [], ◌++◌, length, take, drop}
 use Rattle.std.specs.Prelude.{Option, Some, None, Result, Ok, Err}
 use Rattle.room_base.specs.Outside.{SourceView, Told}
 use Rattle.desk_request.specs.Heads.{BeginsWith, HasNoHead, NeverHasHead}
@@ -36,13 +36,15 @@ FindsFirst new bytes (Err Bad) =
 FindsFirst new bytes (Err ReadFault) = HasNoHead bytes
 FindsFirst new bytes (Err Memory) = Unit {0}
 
--- takes behind the bytes of a list, until a head is found or can't be
+-- Takes behind the bytes of a list, until a head is found or can't be. Nothing is taken where these
+-- begin with one.
 pub record ReadsHead (old new : SourceView) (before after : List ℕ)
     (answer : Result (Option Head) RequestFault) : Type 0 where
   pub more : List ℕ
   pub added : after ≡ before ++ more
   pub took : Told old.tells (Took old new more)
   pub finds : FindsFirst new after answer
+  pub still : HasNoHead before ⊎ (more ≡ [])
 
 -- what an answer says of the last bytes, where they have no head
 abbrev pub EndsAs : List ℕ → Result (Option Head) RequestFault → Type 0
@@ -68,11 +70,12 @@ pub record Fills {T : Type 0} (old new : SourceView) (before after : List ℕ) (
   pub fills : FillsUp new (length before - at) more answer
 
 -- What an answer says of a body of so many bytes, of which those behind `at` in the buffer are the
--- first and those that were taken the others.
+-- first and those that were taken the others. Nothing is taken where all are in the buffer.
 abbrev pub GivesBody : {V : Type 0} → (V → List ℕ) → SourceView → ℕ → ℕ → List ℕ → List ℕ → List ℕ
     → Result V RequestFault → Type 0
 GivesBody items new at count before after more (Ok body) =
     (drop at before ++ more ≡ items body ++ after) × (length (items body) ≡ count)
+    × (count ≤ length (drop at before) → more ≡ [])
 GivesBody items new at count before after more (Err Bad) =
     (after ≡ before) × (length (drop at before ++ more) < count) × HasEnded new
 GivesBody items new at count before after more (Err ReadFault) =

@@ -1,5 +1,5 @@
 use Rattle.std.proofs.Common.{◌≡◌, ◌∙◌, ◌+◌, ◌-◌, ◌++◌, length, min, take, drop, ap, sym, arith}
-use Rattle.std.proofs.lemmas.List.{drop-drop, take_all}
+use Rattle.std.proofs.lemmas.List.{drop-drop, take_all, nil_from_length}
 use Rattle.desk_request.proofs.Filling.{body_given, written, from_place}
 use Rattle.desk_request.proofs.reading.read_body.Goals as goal
 
@@ -20,6 +20,8 @@ returns-clause-body g c =
     let final : take len (body ++ _) ≡ body = written body _ len same in
     let behind : take (length c.deref.result.now - at) (drop at c.deref.result.now) ≡ there = from_place c.deref.result.now before at c.deref.ensures.value in
     let enough : length more ≡ len - had = omega (arith, fills.fills, ap length given, long) in
+    let had_is : had ≡ min (length there) len =
+    c.copy_front-had.ensures.count ∙ ap (λ bytes. min (length bytes) (length copied)) behind ∙ ap (min (length there)) long in
     let is : body ≡ take had there ++ more =
     sym (take_all (had + length more) body (omega (arith, same, enough))) ∙ fills.filled
     ∙ ap (λ bytes. bytes ++ more) (ap (take had) given ∙ c.copy_front-had.ensures.copied ∙ ap (take had) behind) in
@@ -28,8 +30,9 @@ returns-clause-body g c =
       more = more;
       took = fills.took;
       gives = (
-        body_given there more body had len (c.copy_front-had.ensures.count ∙ ap (λ bytes. min (length bytes) (length copied)) behind ∙ ap (min (length there)) long) enough is ∙ ap (λ bytes. body ++ bytes) (sym after)
+        body_given there more body had len had_is enough is ∙ ap (λ bytes. body ++ bytes) (sym after)
             ∙ ap (λ bytes. bytes ++ c.remove_front.new.list.items) (sym final),
         ap length final ∙ same ∙ c.in_ok-body.ensures.len,
+        λ all. nil_from_length more (omega (arith, all, enough, c.in_ok-body.ensures.len, had_is)),
       );
     }

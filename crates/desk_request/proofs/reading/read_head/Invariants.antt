@@ -1,11 +1,12 @@
-use Rattle.std.proofs.Common.{◌≡◌, ◌≤◌, ◌-◌, ◌++◌, ℕ, List, take, vec_len}
+use Rattle.std.proofs.Common.{◌≡◌, ◌≤◌, ◌-◌, ◌++◌, ◌⊎◌, ℕ, List, [], take, vec_len}
 use Rattle.room_base.specs.Outside.{Told}
 use Rattle.desk_request.specs.Framing.{max_head}
 use Rattle.desk_request.specs.Heads.{HasNoHead}
 use Rattle.desk_request.specs.Reading.{Took}
 use Rattle.desk_request.proofs.reading.read_head.Given as goal
 
--- these bytes were taken to the buffer, no take has failed, and what was searched has no head
+-- these bytes were taken to the buffer, no take has failed, and what was searched has no head: nothing
+-- was taken where the first bytes have one
 abbrev pub invariant-pieces : goal.invariant-pieces
 invariant-pieces g l = record {
   more : List ℕ;
@@ -13,6 +14,7 @@ invariant-pieces g l = record {
   took : Told (g.S.Source.view l.initial.source).tells
       (Took (g.S.Source.view l.initial.source) (g.S.Source.view l.source) more);
   none : HasNoHead (take l.searched l.buffer.items);
+  still : HasNoHead l.initial.buffer.items ⊎ (more ≡ []);
   later : (g.S.Source.view l.initial.source).faults ≤ (g.S.Source.view l.source).faults;
   tells : (g.S.Source.view l.source).tells ≡ (g.S.Source.view l.initial.source).tells;
   alone : g.S.Source.takes_alone l.initial.source l.source;

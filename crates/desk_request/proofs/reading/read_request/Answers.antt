@@ -25,7 +25,7 @@ returns-in_err-body-clause-read g c = λ told.
     let begins = found (g.S.Source.view c.read_head.new.source) c.read_head.new.buffer.items c.in_ok-head.field-0 c.in-Some.head c.in-Some.is read.finds in
     rw (p.1, p.2) (body_failed _ (g.S.Source.view c.args.source.now) (g.S.Source.view c.read_head.new.source) (g.S.Source.view c.read_body.new.source)
     c.args.buffer.now.items c.read_head.new.buffer.items c.read_body.new.buffer.items read.more c.in-Some.head c.in_err-body.field-0.0
-    c.in_err-body.ensures.tells c.in_ok-head.ensures.tells told read.added read.took begins c.in_err-body.ensures.body)
+    c.in_err-body.ensures.tells c.in_ok-head.ensures.tells told read.added read.took begins read.still c.in_err-body.ensures.body)
 
 pub returns-clause-read : goal.returns-clause-read
 returns-clause-read g c = λ told.
@@ -34,4 +34,4 @@ returns-clause-read g c = λ told.
     let body = c.in_ok-body.ensures.body in
     request_read (g.S.Source.view c.args.source.now) (g.S.Source.view c.read_head.new.source) (g.S.Source.view c.read_body.new.source)
     c.args.buffer.now.items c.read_head.new.buffer.items c.read_body.new.buffer.items c.in_ok-body.body.items read.more body.more c.in-Some.head c.new.result
-    read.added (read.took told) (body.took (rw c.in_ok-head.ensures.tells told)) begins body.gives.0 body.gives.1 c.new.ensures
+    read.added (read.took told) (body.took (rw c.in_ok-head.ensures.tells told)) begins read.still body.gives.0 body.gives.1 body.gives.2 c.new.ensures
