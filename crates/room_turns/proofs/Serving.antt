@@ -211,7 +211,7 @@ module _ (passages : List Passage) (call : Call) (deeds : List Deed) (old new : 
         → ((file : ℕ) → risen_by (failures_in file passages old) (before.faults file) ≤ disk.faults file)
         → Told before.tells (IsServable old before → Leads passages old at before disk) → Served more old new before now
     more_at is_new are tells faults told = record {
-      answered = answered_one_more passages one old are opens answered;
+      answered = answered_one_more passages one old are opens answered tt;
       is = is_new;
       room = performed.room ∙ sym (behind_one_more passages one old);
       tells = performed.tells ∙ tells;
@@ -431,7 +431,8 @@ served_reopened passages call deeds reopening old mid before disk now so_far clo
     let few = answer_few call from deeds was.answered in
     let C : RoomView → Type 0 = λ one. one.is_open ≡ false in
     record {
-      answered = answered_one_more passages other old (answered_before passages last old so_far.answered) was.opens was.answered;
+      answered = answered_one_more passages other old (answered_before passages last old so_far.answered) was.opens was.answered
+          (subst C room closed, held, fits);
       is = opened_is_room reopening.catalogue reopening.journal held fits;
       room = sym (behind_one_more passages other old);
       tells = tells ∙ so_far.tells;

@@ -5,7 +5,7 @@ use Rattle.catalog_spelling.specs.Changes.{Stamped}
 use Rattle.room_catalog.specs.Held.{CatalogueLists}
 use Rattle.room_turns.specs.Served.{ReopensBehind}
 
--- The files reopen as this catalogue, as that after one change more, or as that after two.
-abbrev pub ReopensWithinTwo : CatalogueLists → Image → Type 0
-ReopensWithinTwo lists files =
-    (changes : List Stamped) × (length changes ≤ 2) × ReopensBehind changes lists files
+-- The files reopen as the catalogue before a call, or as that after the first so many of the changes
+-- that it entered, of which there are at most two.
+abbrev pub ReopensWithin : List Stamped → CatalogueLists → Image → Type 0
+ReopensWithin changes lists files = (length changes ≤ 2) × ReopensBehind changes lists files

@@ -1,10 +1,11 @@
 -- What happens to a room over many calls, and over the reopenings behind faults of its journal.
-use Rattle.std.specs.Prelude.{ℕ, ◌+◌, ◌==◌, IsTrue, List, [], ◌∷◌, ◌++◌}
+use Rattle.std.specs.Prelude.{◌≡◌, ℕ, ◌+◌, ◌==◌, false, IsTrue, List, [], ◌∷◌, ◌++◌}
 use Rattle.std.specs.Prelude.{Option, Some, None, if◌then◌else◌}
 use Rattle.cat_journal.specs.Journal.{JournalView}
 use Rattle.catalog_spelling.specs.Changes.{Stamped}
 use Rattle.room_catalog.specs.Held.{CatalogueLists}
-use Rattle.room_effects.specs.View.{RoomView, opened_room}
+use Rattle.room_catalog.specs.Invariant.{IsHeld}
+use Rattle.room_effects.specs.View.{IsJournalOf, RoomView, opened_room}
 use Rattle.room_effects.specs.Effects.{Deed, Done, Broken, after, after_all}
 use Rattle.room_effects.specs.Running.{entered, failures}
 use Rattle.room_turns.specs.Steps.{Call, IsAnswer}
@@ -49,11 +50,18 @@ abbrev pub behind_all : List Passage → RoomView → RoomView
 behind_all [] room = room
 behind_all (one ∷ more) room = behind_all more (behind one room)
 
+-- A room was reopened only where a fault of its journal had closed it, and with a journal that fits
+-- the catalogue.
+abbrev pub IsReopened : Option Reopening → RoomView → Type 0
+IsReopened None room = Unit {0}
+IsReopened (Some reopening) room = (room.is_open ≡ false) × IsHeld reopening.catalogue
+    × IsJournalOf reopening.catalogue (record reopening.journal { spare = 0 })
+
 -- each call was of an open room, and answered by a plan of its command
 abbrev pub AreAnswered : List Passage → RoomView → Type 0
 AreAnswered [] room = Unit {0}
 AreAnswered (one ∷ more) room = IsTrue room.is_open × IsAnswer one.call room one.deeds
-    × AreAnswered more (behind one room)
+    × IsReopened one.reopening (after_all one.deeds room) × AreAnswered more (behind one room)
 
 -- Where the room was reopened the entry that had failed stands, or doesn't: the catalogue has the
 -- next number, or the one that it had.

@@ -9,7 +9,7 @@ ghost use Rattle.room_effects.specs.View.{IsRoom, RoomView};
 ghost use Rattle.room_effects.specs.Effects.{Deed};
 ghost use Rattle.room_effects.specs.Running.{Ready, nothing_known, trail};
 ghost use Rattle.journal_files.specs.Files.{ReplaysTo};
-ghost use Rattle.room_turns.specs.Calls.{ReopensWithinTwo};
+ghost use Rattle.room_turns.specs.Calls.{ReopensWithin};
 ghost use Rattle.room_turns.specs.Orderly.{IsNoFault};
 ghost use Rattle.room_turns.specs.Served.{IsServable};
 ghost use Rattle.room_turns.specs.Steps.{Call, IsAnswer, Turn};
@@ -28,8 +28,9 @@ pub fn two_changes_at_most()
 pub fn images_of_a_call_replay<D: Store>(before: &D, now: &D)
     ensures moments { (call : Call) (old new : RoomView) → IsRoom old → IsTrue old.is_open
         → IsTrue (D.view before.now).tells → IsServable old (D.view before.now)
-        → Turn call old new (D.view before.now) (D.view now.now)
-        → Leaves (D.view before.now) (D.view now.now) (ReopensWithinTwo old.catalogue) }
+        → (turn : Turn call old new (D.view before.now) (D.view now.now))
+        → Leaves (D.view before.now) (D.view now.now)
+        (ReopensWithin (trail turn.deeds old) old.catalogue) }
     ensures ended { (call : Call) (old new : RoomView) → IsRoom old → IsTrue old.is_open
         → IsTrue (D.view before.now).tells → IsServable old (D.view before.now)
         → Turn call old new (D.view before.now) (D.view now.now) → IsTrue new.is_open
