@@ -12,7 +12,12 @@ use catalog_snapshot::snapshot;
 use catalog_text::{decode_change, encode_change};
 use journal_replay::read_snapshot;
 use room_base::{Moment, Name};
+<<<<<<< HEAD
 use room_disk::{FolderStore, Store};
+=======
+use room_catalog::Catalogue;
+use room_disk::{Access, FolderLock, FolderStore, Store};
+>>>>>>> abce9b4 (A disk of the system is made of the lock on its folder, and keeps it)
 use std::alloc::Global;
 use std::env;
 use std::process::ExitCode;
@@ -30,7 +35,8 @@ fn measure(rt: &HostRuntime) -> Option<()> {
     let folder = Name::read(alloc, folder.as_bytes(), 4096).ok()?;
     let times = word_at(rt, 2)?.as_str().parse::<u32>().ok()?;
     let work = word_at(rt, 3)?;
-    let mut disk = FolderStore::new(rt, alloc, folder);
+    let lock = FolderLock::take(rt, folder, Access::Reads).ok()?;
+    let mut disk = FolderStore::new(rt, alloc, lock);
     let text = text_of(alloc, &mut disk)?;
     match work.as_str() {
         "decode" => decode(alloc, &text, times),

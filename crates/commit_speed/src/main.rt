@@ -14,7 +14,7 @@ use crate::label::label_of;
 use crate::words::{Words, read_words};
 use chunk_mux::MuxBuffer;
 use room_base::Name;
-use room_disk::FolderStore;
+use room_disk::{Access, FolderLock, FolderStore};
 use std::alloc::Global;
 use std::process::ExitCode;
 use volume_store::{FIRST_MARK, Volume, write_label};
@@ -48,7 +48,8 @@ fn commit_of(rt: &HostRuntime, folder: Name, units: u32, files: u32) -> Option<(
     let label = label_of(units);
     let mut buffer = MuxBuffer::new(alloc, units).ok()?;
     let piece = full_piece(alloc, units)?;
-    let mut disk = FolderStore::new(rt, alloc, folder);
+    let lock = FolderLock::take(rt, folder, Access::Writes).ok()?;
+    let mut disk = FolderStore::new(rt, alloc, lock);
     write_label(&mut disk, &label).ok()?;
     let volume = Volume {
         label,

@@ -3,7 +3,7 @@
 
 use cat_journal::Journal;
 use room_base::Name;
-use room_disk::FolderStore;
+use room_disk::{Access, FolderLock, FolderStore};
 use std::env;
 use std::process::ExitCode;
 
@@ -17,8 +17,8 @@ fn main(rt: HostRuntime) -> ExitCode {
 // Opens the journal of the folder that the first word names.
 fn open_in(rt: &HostRuntime) -> Option<()> {
     let alloc = rt.alloc();
-    let folder = folder_of(rt)?;
-    let mut disk = FolderStore::new(rt, alloc, folder);
+    let lock = FolderLock::take(rt, folder_of(rt)?, Access::Writes).ok()?;
+    let mut disk = FolderStore::new(rt, alloc, lock);
     Journal::open(alloc, &mut disk).ok()?;
     Some(())
 }

@@ -8,8 +8,10 @@ pub mod Held
 pub mod Kept
 pub mod Known
 pub mod Laws
+pub mod Locking
 pub mod Memory
 pub mod Past
 pub mod Rebuilding
+pub mod Stores
 pub mod Untold
 pub mod Writing

@@ -1,13 +1,15 @@
 ghost use Rattle.std.specs.Prelude.{◌≡◌, ℕ, ◌≤◌, OnErr};
 ghost use Rattle.room_base.specs.Faults.{Rose};
 ghost use Rattle.room_disk.specs.Faults.{counts_after, faults_on, no_faults};
+ghost use Rattle.room_disk.specs.Stores.{folder_of};
 
 use crate::Store;
 use crate::fault_counts::FaultCounts;
 use crate::folder::Folder;
+use crate::folder_lock::FolderLock;
 use crate::known_folder::KnownFolder;
 use crate::system_folder::SystemFolder;
-use room_base::{Failed, Name};
+use room_base::Failed;
 use std::alloc::Global;
 use std::fs::File;
 use std::rt::Files;
@@ -23,18 +25,20 @@ pub struct FolderStore<F: Folder> {
 }
 
 impl<R: Files<File = File>> FolderStore<SystemFolder<R>> {
-    /// A folder of the system, of which nothing is told. Makes no call on it, and never makes it.
-    pub fn new(rt: R, alloc: Global, folder: Name) -> FolderStore<SystemFolder<R>>
-        ensures { result.faults ≡ no_faults }
+    /// The folder of the system that is locked, of which nothing is told. The lock is kept as long
+    /// as the store. Makes no call on the folder, and never makes it.
+    pub fn new(rt: R, alloc: Global, lock: FolderLock) -> FolderStore<SystemFolder<R>>
+        ensures locked { folder_of result ≡ lock }
+        ensures faults { result.faults ≡ no_faults }
     {
-        FolderStore::over(alloc, SystemFolder::new(rt, alloc, folder))
+        FolderStore::over(alloc, SystemFolder::new(rt, alloc, lock))
     }
 }
 
 impl<F: Folder> FolderStore<F> {
     /// Makes no call on the folder.
     pub fn over(alloc: Global, folder: F) -> FolderStore<F>
-        ensures folder { result.known.folder ≡ folder }
+        ensures folder { folder_of result ≡ folder }
         ensures faults { result.faults ≡ no_faults }
     {
         FolderStore {

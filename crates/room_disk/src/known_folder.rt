@@ -5,6 +5,7 @@ ghost use Rattle.room_disk.specs.Crash.{overlaid, Torn, CutShort};
 ghost use Rattle.room_disk.specs.Disk.{Settled, Quiet};
 ghost use Rattle.room_disk.specs.Folder.{KeepsFiles, ChangesDisk, IsAbsent, ReadsAll};
 ghost use Rattle.room_disk.specs.Known.{IsKnownAbsent, IsLost, IsFree, KeepsLost};
+ghost use Rattle.room_disk.specs.Known.{AreNamesLost, KeepsNamesLost};
 ghost use Rattle.room_disk.specs.declared.file_state.NameState.TheVariants.{Synced};
 
 use crate::file_name::{NAMED, file_name};
@@ -17,7 +18,7 @@ use std::alloc::Global;
 
 /// A folder with what is known of it: no other program is to change it meanwhile. A file that isn't
 /// there is empty, and only a write makes one. After a sync of a file that failed every call on it
-/// fails.
+/// fails. After a sync of the names that failed so does every sync of a file that is there.
 #[derive(Drop)]
 pub struct KnownFolder<F: Folder> {
     alloc: Global,
@@ -47,6 +48,7 @@ impl<F: Folder> KnownFolder<F> {
     fn find(&mut self, file: u32) -> Result<Option<usize>, Failed>
         ensures kept { Told F.tells (KeepsFiles (F.view self.old.folder) (F.view self.new.folder)) }
         ensures lost { KeepsLost self.old.states self.new.states }
+        ensures names { self.new.names ≡ self.old.names }
         ensures fails { IsLost self.old.states file → IsErr result }
         ensures named { OnOk result (file < 258) }
         ensures found { IfOk result (λ found. MatchOption found
@@ -74,6 +76,7 @@ impl<F: Folder> KnownFolder<F> {
         requires free { IsFree self.old.states file }
         ensures kept { Told F.tells (KeepsFiles (F.view self.old.folder) (F.view self.new.folder)) }
         ensures lost { KeepsLost self.old.states self.new.states }
+        ensures names { self.new.names ≡ self.old.names }
         ensures found { IfOk result (λ found. MatchOption found
             (IsKnownAbsent self.new.states file)
             (λ index. (index < length self.new.opened.items)
@@ -99,6 +102,7 @@ impl<F: Folder> KnownFolder<F> {
         requires { Told F.tells (F.number handle ≡ file) }
         ensures folder { self.new.folder ≡ self.old.folder }
         ensures states { self.new.states ≡ self.old.states }
+        ensures names { self.new.names ≡ self.old.names }
         ensures kept { OnOk result (
             (length self.old.opened.items < length self.new.opened.items)
             × ((other : _) → (slice_index_or self.new.opened.items
@@ -119,6 +123,7 @@ impl<F: Folder> KnownFolder<F> {
         ensures quiet { Told F.tells
             (Quiet (F.view self.old.folder).disk (F.view self.new.folder).disk) }
         ensures lost { KeepsLost self.old.states self.new.states }
+        ensures names { KeepsNamesLost self.old.names self.new.names }
         ensures fails { IsLost self.old.states file → IsErr result }
         ensures named { OnOk result (file < 258) }
         ensures found { IfOk result (λ index. (index < length self.new.opened.items)
@@ -142,6 +147,7 @@ impl<F: Folder> KnownFolder<F> {
             → (slice_index_or self.old.opened.items index other).file ≡ file }
         ensures kept { Told F.tells (KeepsFiles (F.view self.old.folder) (F.view self.new.folder)) }
         ensures states { self.new.states ≡ self.old.states }
+        ensures names { self.new.names ≡ self.old.names }
         ensures open { index < length self.new.opened.items }
         ensures file { (other : _)
             → (slice_index_or self.new.opened.items index other).file ≡ file }
@@ -168,6 +174,7 @@ impl<F: Folder> KnownFolder<F> {
         ensures quiet { Told F.tells
             (Quiet (F.view self.old.folder).disk (F.view self.new.folder).disk) }
         ensures lost { KeepsLost self.old.states self.new.states }
+        ensures names { KeepsNamesLost self.old.names self.new.names }
         ensures found { IfOk result (λ index. (index < length self.new.opened.items)
             × (IsFree self.new.states file)
             × ((other : _) → (slice_index_or self.new.opened.items index other).file ≡ file)) }
@@ -186,6 +193,7 @@ impl<F: Folder> KnownFolder<F> {
     pub fn len(&mut self, file: u32) -> Result<u64, Failed>
         ensures kept { Told F.tells (KeepsFiles (F.view self.old.folder) (F.view self.new.folder)) }
         ensures lost { KeepsLost self.old.states self.new.states }
+        ensures names { self.new.names ≡ self.old.names }
         ensures fails { IsLost self.old.states file → IsErr result }
         ensures named { OnOk result (file < 258) }
         ensures length { Told F.tells
@@ -204,6 +212,7 @@ impl<F: Folder> KnownFolder<F> {
         ensures within { IfOk result (λ count. count ≤ length into.old) }
         ensures kept { Told F.tells (KeepsFiles (F.view self.old.folder) (F.view self.new.folder)) }
         ensures lost { KeepsLost self.old.states self.new.states }
+        ensures names { self.new.names ≡ self.old.names }
         ensures fails { IsLost self.old.states file → IsErr result }
         ensures named { OnOk result (file < 258) }
         ensures given { Told F.tells (IfOk result (λ count.
@@ -221,6 +230,7 @@ impl<F: Folder> KnownFolder<F> {
     pub fn write(&mut self, file: u32, at: u64, bytes: &[u8]) -> Result<(), Failed>
         ensures fits { OnOk result (at + length bytes.now < 2 ^ 64) }
         ensures lost { KeepsLost self.old.states self.new.states }
+        ensures names { KeepsNamesLost self.old.names self.new.names }
         ensures fails { IsLost self.old.states file → IsErr result }
         ensures named { OnOk result (file < 258) }
         ensures written { Told F.tells (OnOk result ((F.view self.new.folder).disk.reads file
@@ -246,6 +256,7 @@ impl<F: Folder> KnownFolder<F> {
         requires file { (other : _)
             → (slice_index_or self.old.opened.items index other).file ≡ file }
         ensures states { self.new.states ≡ self.old.states }
+        ensures names { self.new.names ≡ self.old.names }
         ensures written { Told F.tells (OnOk result ((F.view self.new.folder).disk.reads file
             ≡ overlaid to [] ((F.view self.old.folder).disk.reads file))) }
         ensures changes { Told F.tells (ChangesDisk file (Torn to [])
@@ -261,6 +272,7 @@ impl<F: Folder> KnownFolder<F> {
     pub fn cut(&mut self, file: u32, to: u64) -> Result<(), Failed>
         requires { Told F.tells (to ≤ length ((F.view self.old.folder).disk.reads file)) }
         ensures lost { KeepsLost self.old.states self.new.states }
+        ensures names { self.new.names ≡ self.old.names }
         ensures fails { IsLost self.old.states file → IsErr result }
         ensures named { OnOk result (file < 258) }
         ensures cut { Told F.tells (OnOk result ((F.view self.new.folder).disk.reads file
@@ -282,7 +294,10 @@ impl<F: Folder> KnownFolder<F> {
     pub fn sync(&mut self, file: u32) -> Result<(), Failed>
         ensures kept { Told F.tells (KeepsFiles (F.view self.old.folder) (F.view self.new.folder)) }
         ensures lost { KeepsLost self.old.states self.new.states }
+        ensures names { KeepsNamesLost self.old.names self.new.names }
         ensures fails { IsLost self.old.states file → IsErr result }
+        ensures unnamed { AreNamesLost self.old.names
+            → OnOk result (IsKnownAbsent self.new.states file) }
         ensures named { OnOk result (file < 258) }
         ensures failed { OnErr result (file < 258 → IsLost self.new.states file) }
         ensures settled { Told F.tells
@@ -298,7 +313,10 @@ impl<F: Folder> KnownFolder<F> {
     fn sync_found(&mut self, file: u32) -> Result<(), Failed>
         ensures kept { Told F.tells (KeepsFiles (F.view self.old.folder) (F.view self.new.folder)) }
         ensures lost { KeepsLost self.old.states self.new.states }
+        ensures names { KeepsNamesLost self.old.names self.new.names }
         ensures fails { IsLost self.old.states file → IsErr result }
+        ensures unnamed { AreNamesLost self.old.names
+            → OnOk result (IsKnownAbsent self.new.states file) }
         ensures named { OnOk result (file < 258) }
         ensures settled { Told F.tells
             (OnOk result (Settled (F.view self.new.folder).disk file)) }
@@ -313,10 +331,13 @@ impl<F: Folder> KnownFolder<F> {
         }
     }
 
-    // Syncs the names, unless they are on the disk.
+    // Syncs the names, unless they are on the disk. After a sync that failed they are lost.
     fn sync_names(&mut self) -> Result<(), Failed>
         ensures kept { Told F.tells (KeepsFiles (F.view self.old.folder) (F.view self.new.folder)) }
         ensures states { self.new.states ≡ self.old.states }
+        ensures names { KeepsNamesLost self.old.names self.new.names }
+        ensures fails { AreNamesLost self.old.names → IsErr result }
+        ensures failed { OnErr result (AreNamesLost self.new.names) }
         ensures synced { Told F.tells (OnOk result (IsTrue (F.view self.new.folder).has_names)) }
     {
         match self.names {

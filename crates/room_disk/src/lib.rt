@@ -24,7 +24,7 @@ mod store;
 mod system_folder;
 
 pub use folder::Folder;
-pub use folder_lock::{Access, FolderLock, LockFault};
+pub use folder_lock::{Access, FolderLock, LockFault, Unlocked};
 pub use folder_store::FolderStore;
 pub use gate::{
     cut_unsynced, open_gate, write_anew, write_gated, write_parts, write_parts_gated, write_synced,

@@ -1,43 +1,86 @@
 ghost use Rattle.std.specs.Prelude.{◌≡◌, Ok, Some, None, IfOk, IfErr, IsErr, MatchResult};
+ghost use Rattle.std.specs.Prelude.{IsTrue, OnOk, ◌++◌, codes, string_bytes};
 ghost use Rattle.std.specs.IoError.{error_kind};
 
 use crate::folder::Folder;
-use room_base::{Failed, Name};
+use crate::folder_lock::{Access, FolderLock};
+use room_base::Failed;
 use std::alloc::Global;
 use std::fs::{File, OpenOptions};
 use std::io;
 use std::io::ErrorKind;
+use std::marker::Model;
 use std::os::unix::fs::FileExt;
 use std::rt::Files;
 
 /// The last place that a file of the system can have.
 const MAX_OFFSET: u64 = i64::MAX as u64;
 
-/// A folder of the system. It tells nothing.
+/// A folder of the system, which contracts see as the lock on it. It tells nothing. The lock is
+/// kept as long as this value. Where it is for reading alone, no file is made or opened for writing.
 #[derive(Drop)]
 pub struct SystemFolder<R: Files<File = File>> {
     rt: R,
     alloc: Global,
-    folder: Name,
+    lock: FolderLock,
+}
+
+impl<R: Files<File = File>> Model for SystemFolder<R> {
+    ghost use Rattle.room_disk.specs.Locking.{LockView};
+
+    ghost Value = { LockView };
+
+    ghost view = { λ folder. folder.lock };
 }
 
 impl<R: Files<File = File>> SystemFolder<R> {
-    /// Makes no call on the system. The folder itself is never made.
-    pub fn new(rt: R, alloc: Global, folder: Name) -> SystemFolder<R> {
-        SystemFolder { rt, alloc, folder }
+    /// The folder of the lock. Makes no call on the system. The folder itself is never made.
+    pub fn new(rt: R, alloc: Global, lock: FolderLock) -> SystemFolder<R>
+        ensures { result ≡ lock }
+    {
+        SystemFolder { rt, alloc, lock }
     }
 
-    fn open_as(&self, name: &str, how: &OpenOptions) -> Result<io::Result<File>, Failed> {
-        let folder = self.folder.as_str();
+    // Opens a file, or makes one.
+    fn open_as(&self, name: &str, writes: bool, makes: bool) -> Result<io::Result<File>, Failed>
+        ensures { OnOk result (IsTrue writes → self.now.access ≡ Access.Writes) }
+    {
+        if !self.allows(writes) {
+            return Err(Failed);
+        }
+        let mut how = OpenOptions::new();
+        how.read(true);
+        how.write(writes);
+        how.create_new(makes);
+        let path = self.path_of(name)?;
+        Ok(how.open(&self.rt, path.as_str()))
+    }
+
+    // The path of a file of the folder that is locked.
+    fn path_of(&self, name: &str) -> Result<String, Failed>
+        ensures { IfOk result
+            (λ path. string_bytes path ≡ self.now.folder ++ (codes "/" ++ name.now)) }
+    {
+        let folder = self.lock.folder();
         match format!(in self.alloc; "{folder}/{name}") {
-            Ok(path) => Ok(how.open(&self.rt, path.as_str())),
+            Ok(path) => Ok(path),
             Err(_) => Err(Failed),
+        }
+    }
+
+    // Whether the lock is for this.
+    fn allows(&self, writes: bool) -> bool
+        ensures { IsTrue result → IsTrue writes → self.now.access ≡ Access.Writes }
+    {
+        match self.lock.access() {
+            Access::Reads => !writes,
+            Access::Writes => true,
         }
     }
 
     // The folder itself.
     fn open_folder(&self) -> Result<File, Failed> {
-        answer(File::open(&self.rt, self.folder.as_str()))
+        answer(File::open(&self.rt, self.lock.folder()))
     }
 }
 
@@ -59,10 +102,7 @@ impl<R: Files<File = File>> Folder for SystemFolder<R> {
     ghost settles = { λ folder file bytes names. untold_settles _ names };
 
     fn open(&mut self, _file: u32, name: &str, writes: bool) -> Result<Option<File>, Failed> {
-        let mut how = OpenOptions::new();
-        how.read(true);
-        how.write(writes);
-        let opened = found(self.open_as(name, &how)?)?;
+        let opened = found(self.open_as(name, writes, false)?)?;
         if opened.is_none() {
             self.open_folder()?;
         }
@@ -70,11 +110,7 @@ impl<R: Files<File = File>> Folder for SystemFolder<R> {
     }
 
     fn make(&mut self, _file: u32, name: &str) -> Result<File, Failed> {
-        let mut how = OpenOptions::new();
-        how.read(true);
-        how.write(true);
-        how.create_new(true);
-        answer(self.open_as(name, &how)?)
+        answer(self.open_as(name, true, true)?)
     }
 
     fn len(&mut self, file: &File) -> Result<u64, Failed> {

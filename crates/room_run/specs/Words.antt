@@ -127,7 +127,3 @@ abbrev pub access_of : Command → Access
 access_of (commands.Put cart) = accesses.Writes
 access_of (commands.Get cart number) = accesses.Reads
 access_of commands.Desk = accesses.Writes
-
--- the words are a command
-abbrev pub AreCommand : List (List ℕ) → Type 0
-AreCommand words = (command : Command) × ReadsWords words (Ok command)

@@ -8,7 +8,7 @@ ghost use Rattle.room_run.specs.Report.{ReportsUnlocked, bad_input_line, damaged
 use crate::Status;
 use itoa::Buffer;
 use room_base::{Failed, Refusal, Sink, write_all, write_parts, write_refusal};
-use room_disk::LockFault;
+use room_disk::{LockFault, Unlocked};
 
 /// Writes the line that tells an operator why the program didn't do its work. Nothing is written
 /// for `Done`, and a fault of the sink changes nothing. Takes no memory.
@@ -33,14 +33,14 @@ pub fn report<E: Sink>(err: &mut E, status: &Status)
     }
 }
 
-/// Tells an operator why the folder wasn't locked.
-pub fn report_unlocked<E: Sink>(err: &mut E, fault: LockFault)
+/// Tells an operator why the folder wasn't locked, as the system said.
+pub fn report_unlocked<E: Sink>(err: &mut E, unlocked: &Unlocked)
     ensures later { (E.view err.old).faults ≤ (E.view err.new).faults }
     ensures tells { (E.view err.new).tells ≡ (E.view err.old).tells }
     ensures reported { Told (E.view err.old).tells
-        (ReportsUnlocked fault (E.view err.old) (E.view err.new)) }
+        (ReportsUnlocked unlocked.now.fault (E.view err.old) (E.view err.new)) }
 {
-    match fault {
+    match unlocked.fault() {
         LockFault::InUse => write_line(err, b"room: disk fault\nroom: folder in use\n"),
         LockFault::NoFolder => write_line(err, b"room: disk fault\nroom: no folder\n"),
     }

@@ -5,14 +5,15 @@ use Rattle.room_base.specs.Faults.{Rose}
 use Rattle.room_base.specs.Outside.{SinkView, Told, AddsFront}
 use Rattle.room_base.specs.Text.{IsName, HasLength}
 use Rattle.room_disk.specs.Untold.{untold_disk}
-use Rattle.room_disk.specs.declared.folder_lock.LockFault.{LockFault}
+use Rattle.room_disk.specs.Locking.{LockView, UnlockedView}
 use Rattle.room_run.specs.Report.{Reports, ReportsUnlocked}
 use Rattle.room_run.specs.Run.{World, world, Ends}
 use Rattle.room_top.specs.declared.start.Request.{Request}
 use Rattle.room_top.specs.declared.start.Request.TheVariants as requests
 use Rattle.room_run.specs.declared.status.Status.{Status}
 use Rattle.room_run.specs.declared.status.Status.TheVariants as status
-use Rattle.room_run.specs.Words.{AreCommand}
+use Rattle.room_run.specs.Words.{ReadsWords, access_of}
+use Rattle.room_run.specs.declared.words.Command.{Command}
 
 -- ---- what is asked for
 
@@ -67,37 +68,73 @@ system faults out =
     (untold_disk faults.disk)
     (record { tells = false; moments = []; faults = faults.clock })
 
--- a run with these words over the system's own objects
-abbrev pub RunsOverSystem : List (List ℕ) → SinkView → SinkView → Status → Type 0
-RunsOverSystem words old new answer = (before : SystemFaults)
-    × ((now : SystemFaults) × Ends words (system before old) (system now new) answer)
+-- the same as a run begins, with the lock that the disk keeps
+pub record System : Type 0 where
+  pub lock : LockView
+  pub faults : SystemFaults
 
--- what is printed for the request, and the status that it ends with
-abbrev pub Serves : List ℕ → List ℕ → Result Request Status → SinkView → SinkView → Status → Type 0
-Serves help version (Ok requests.Help) old new answer = PrintsText help old new answer
-Serves help version (Ok requests.Version) old new answer = PrintsText version old new answer
-Serves help version (Ok (requests.Run folder words)) old new answer =
-    RunsOverSystem (map string_bytes words.items) old new answer
-Serves help version (Err fault) old new answer = (answer ≡ fault) × (new ≡ old)
+-- the words are a command, and the lock is for what that does with the files of the folder
+abbrev pub IsLockFor : List (List ℕ) → LockView → Type 0
+IsLockFor words lock =
+    (command : Command) × ReadsWords words (Ok command) × (lock.access ≡ access_of command)
 
--- the request is a command whose folder wasn't locked for it, so that nothing is done
-abbrev pub LeavesAlone : Result Request Status → SinkView → SinkView → Status → Type 0
-LeavesAlone (Ok (requests.Run folder words)) old new answer =
-    AreCommand (map string_bytes words.items) × (answer ≡ status.DiskFault) × (new ≡ old)
-LeavesAlone other old new answer = ⊥
+-- a run with these words over the system's own objects, of which the disk is the folder of the lock
+abbrev pub RunsOverSystem : LockView → List (List ℕ) → SinkView → SinkView → Status → Type 0
+RunsOverSystem lock words old new answer = (before : System) × ((now : SystemFaults)
+    × (before.lock ≡ lock) × Ends words (system before.faults old) (system now new) answer)
 
--- the request is done on the output, or its folder wasn't locked, and where errors go that is said
-abbrev pub ServesOrSays : List ℕ → List ℕ → Result Request Status → SinkView → SinkView → SinkView
+-- where errors go it is said why not all was done
+abbrev pub Says : Status → SinkView → SinkView → Type 0
+Says answer err err_now = Told err.tells (Reports answer err err_now)
+
+-- the folder was locked for the command, which ran then
+pub record RunsUnder (folder : List ℕ) (words : List (List ℕ)) (out out_now err err_now : SinkView)
+    (answer : Status) : Type 0 where
+  pub lock : LockView
+  pub folder_is : lock.folder ≡ folder
+  pub wanted : IsLockFor words lock
+  pub ran : RunsOverSystem lock words out out_now answer
+  pub says : Says answer err err_now
+
+-- the folder wasn't locked for the command, which is said, and nothing was done
+pub record StaysUnlocked (folder : List ℕ) (words : List (List ℕ))
+    (out out_now err err_now : SinkView) (answer : Status) : Type 0 where
+  pub unlocked : UnlockedView
+  pub folder_is : unlocked.wanted.folder ≡ folder
+  pub wanted : IsLockFor words unlocked.wanted
+  pub failed : answer ≡ status.DiskFault
+  pub alone : out_now ≡ out
+  pub says : Told err.tells (ReportsUnlocked unlocked.fault err err_now)
+
+-- what is done for a command, which these words are, in this folder
+abbrev pub RunsLocked : List ℕ → List (List ℕ) → SinkView → SinkView → SinkView → SinkView → Status
+    → Type 0
+RunsLocked folder words out out_now err err_now answer =
+    RunsUnder folder words out out_now err err_now answer
+    ⊎ StaysUnlocked folder words out out_now err err_now answer
+
+-- the words are no command, which is said, and nothing was done
+abbrev pub TurnsAway : List (List ℕ) → SinkView → SinkView → SinkView → SinkView → Status → Type 0
+TurnsAway words out out_now err err_now answer =
+    ReadsWords words (Err answer) × (out_now ≡ out) × Says answer err err_now
+
+-- what is done for the request, and the status that it ends with
+abbrev pub Serves : List ℕ → List ℕ → Result Request Status → SinkView → SinkView → SinkView
     → SinkView → Status → Type 0
-ServesOrSays help version request out out_now err err_now answer =
-    (Serves help version request out out_now answer × Told err.tells (Reports answer err err_now))
-    ⊎ ((fault : LockFault) × LeavesAlone request out out_now answer
-    × Told err.tells (ReportsUnlocked fault err err_now))
+Serves help version (Ok requests.Help) out out_now err err_now answer =
+    PrintsText help out out_now answer × Says answer err err_now
+Serves help version (Ok requests.Version) out out_now err err_now answer =
+    PrintsText version out out_now answer × Says answer err err_now
+Serves help version (Ok (requests.Run folder words)) out out_now err err_now answer =
+    TurnsAway (map string_bytes words.items) out out_now err err_now answer
+    ⊎ RunsLocked folder (map string_bytes words.items) out out_now err err_now answer
+Serves help version (Err fault) out out_now err err_now answer =
+    (answer ≡ fault) × (out_now ≡ out) × Says answer err err_now
 
--- How the program ends with these words: what they ask for is done once the folder is locked, and
--- where errors go it is said why not.
+-- How the program ends with these words: what they ask for is done, a command under the lock that
+-- it wants on the folder that they name, and where errors go it is said why not.
 pub record Starts (help version : List ℕ) (words : List (List ℕ))
     (out out_now err err_now : SinkView) (answer : Status) : Type 0 where
   pub request : Result Request Status
   pub asked : AsksFor words request
-  pub served : ServesOrSays help version request out out_now err err_now answer
+  pub served : Serves help version request out out_now err err_now answer

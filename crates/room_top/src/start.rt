@@ -2,12 +2,14 @@ ghost use Rattle.std.specs.Prelude.{◌≡◌, ◌≤◌, ◌↔◌, ◌∷◌, 
 ghost use Rattle.room_base.specs.Outside.{Told};
 ghost use Rattle.room_run.specs.Numbers.{exit_number};
 ghost use Rattle.room_run.specs.Report.{Reports};
+ghost use Rattle.room_run.specs.Words.{ReadsWords};
 ghost use Rattle.room_top.specs.Start.{AsksFor, IsFolderOf, PrintsText, RunsOverSystem, Starts};
+ghost use Rattle.room_top.specs.Start.{IsLockFor, RunsLocked};
 ghost use Rattle.room_run.specs.declared.status.Status.{Status};
 
 use room_base::{Name, NameFault, RealClock, Sink, StdSource, write_all};
 use room_disk::{FolderLock, FolderStore};
-use room_run::{Status, misfit, read_words, report, report_unlocked, run};
+use room_run::{Command, Status, misfit, read_words, report, report_unlocked, run};
 use std::alloc::Global;
 use std::env;
 use std::fs::File;
@@ -31,9 +33,9 @@ The exit status is 0 where all was done; else a line on standard error says why 
 const VERSION: &[u8] = b"room 0.1.0\n";
 
 /// Reads the program's arguments, of which the first names the folder, does what the others ask,
-/// over the system's own objects, and answers the program's exit status. The folder is locked while
-/// a command runs: for it alone where it writes, else for all that read. The arguments aren't told,
-/// so the contract says that there are some.
+/// over the system's own objects, and answers the program's exit status. A command runs on a disk
+/// that keeps the lock on the folder: for it alone where it writes, else for all that read. The
+/// arguments aren't told, so the contract says that there are some.
 pub fn start<W: Sink, E: Sink>(rt: &HostRuntime, out: &mut W, err: &mut E) -> u8
     ensures out_later { (W.view out.old).faults ≤ (W.view out.new).faults }
     ensures err_later { (E.view err.old).faults ≤ (E.view err.new).faults }
@@ -56,22 +58,13 @@ fn serve<W: Sink, E: Sink>(rt: &HostRuntime, out: &mut W, err: &mut E) -> Status
     match read_arguments(rt) {
         Ok(Request::Help) => write_text(out, err, HELP),
         Ok(Request::Version) => write_text(out, err, VERSION),
-        Ok(Request::Run { folder, words }) => {
-            let access = match read_words(alloc, words.as_slice()) {
-                Ok(command) => command.access(),
-                Err(status) => {
-                    report(err, &status);
-                    return status;
-                }
-            };
-            match FolderLock::take(rt, folder.as_str(), access) {
-                Ok(_lock) => run_in(rt, folder, words.as_slice(), out, err),
-                Err(fault) => {
-                    report_unlocked(err, fault);
-                    Status::DiskFault
-                }
+        Ok(Request::Run { folder, words }) => match read_words(alloc, words.as_slice()) {
+            Ok(command) => run_locked(rt, folder, command, words.as_slice(), out, err),
+            Err(status) => {
+                report(err, &status);
+                status
             }
-        }
+        },
         Err(status) => {
             report(err, &status);
             status
@@ -79,24 +72,49 @@ fn serve<W: Sink, E: Sink>(rt: &HostRuntime, out: &mut W, err: &mut E) -> Status
     }
 }
 
-// Does what the words ask in the folder.
-fn run_in<W: Sink, E: Sink>(
+// Locks the folder for the command, which the words are, and does it.
+fn run_locked<W: Sink, E: Sink>(
     rt: &HostRuntime,
     folder: Name,
+    command: Command,
     words: &[String],
     out: &mut W,
     err: &mut E,
 ) -> Status
+    requires { ReadsWords (map string_bytes words.now) (Ok command) }
     ensures out_later { (W.view out.old).faults ≤ (W.view out.new).faults }
     ensures err_later { (E.view err.old).faults ≤ (E.view err.new).faults }
-    ensures ran { RunsOverSystem (map string_bytes words.now) (W.view out.old) (W.view out.new)
-        result }
+    ensures ran { RunsLocked folder (map string_bytes words.now) (W.view out.old) (W.view out.new)
+        (E.view err.old) (E.view err.new) result }
+{
+    match FolderLock::take(rt, folder, command.access()) {
+        Ok(lock) => run_in(rt, lock, words, out, err),
+        Err(unlocked) => {
+            report_unlocked(err, &unlocked);
+            Status::DiskFault
+        }
+    }
+}
+
+// Does what the words ask in the folder, which is locked for that.
+fn run_in<W: Sink, E: Sink>(
+    rt: &HostRuntime,
+    lock: FolderLock,
+    words: &[String],
+    out: &mut W,
+    err: &mut E,
+) -> Status
+    requires { IsLockFor (map string_bytes words.now) lock }
+    ensures out_later { (W.view out.old).faults ≤ (W.view out.new).faults }
+    ensures err_later { (E.view err.old).faults ≤ (E.view err.new).faults }
+    ensures ran { RunsOverSystem lock (map string_bytes words.now) (W.view out.old)
+        (W.view out.new) result }
     ensures reported { Told (E.view err.old).tells
         (Reports result (E.view err.old) (E.view err.new)) }
 {
     let alloc = rt.alloc();
     let mut input = StdSource::new(rt.reader());
-    let mut disk = FolderStore::new(rt, alloc, folder);
+    let mut disk = FolderStore::new(rt, alloc, lock);
     let mut clock = RealClock::new(rt);
     run(alloc, words, &mut input, out, err, &mut disk, &mut clock)
 }

@@ -32,7 +32,7 @@ use Rattle.journal_files.proofs.Once.{one_catalogue}
 use Rattle.journal_files.proofs.Snapshots.{have_snapshots}
 use Rattle.room_turns.specs.Steps.{Call, IsAnswer, Turn}
 use Rattle.room_turns.specs.Runs.{AreAnswered, Passage, Reopening, behind_all, failed, failures_in, found_again, left_open, stands_behind, stood, trail_of}
-use Rattle.room_turns.specs.Served.{IsServable, Leads, ReopensAs, ReopensBehind, ReopensInFault, ReopensInRun, ReopensNow, Served, made_by}
+use Rattle.room_turns.specs.Served.{IsBehind, IsServable, Leads, ReopensAs, ReopensBehind, ReopensInFault, ReopensInRun, ReopensNow, Served, made_by}
 use Rattle.room_turns.proofs.Deeds.{behind_some, catalogue_is, ended_reopens, stood_indexed, trail_is}
 use Rattle.room_turns.proofs.Alike.{made_alike}
 use Rattle.room_turns.proofs.Passages.{answered_before, answered_one_more, behind_one_more, failures_one_more, last_answered, left_one_more, trail_one_more}
@@ -45,6 +45,10 @@ now_of true lists image replays = replays
 now_of false lists image replays =
     record { count = 0; within = omega arith; reopens = record { reopened = lists; replays = replays; is = refl } }
 
+none_along : (room : RoomView) (first more : List Passage) → [] ≡ first ++ more → IsBehind first room
+none_along room [] more parts = refl
+none_along room (head ∷ first) more parts = absurd (cc parts)
+
 pub served_none : (room : RoomView) (disk : DiskView) → IsRoom room → Served [] room room disk disk
 served_none room disk is = record {
   answered = tt;
@@ -55,6 +59,7 @@ served_none room disk is = record {
   told = λ told servable. record {
     ready = servable.ready;
     catalogue = refl;
+    along = none_along room;
     images = λ image held. now_of room.is_open room.catalogue image (servable.reopens image held);
     moments = leaves_none disk disk (ReopensInRun [] room) (quiet_none disk);
   };
@@ -137,6 +142,34 @@ run_more passages one room image (inl some) =
     inl (subst R (sym (trail_one_more passages one room)) (first_behind (trail_of passages room) (stands_behind one (behind_all passages room)) room.catalogue image some))
 run_more passages one room image (inr fault) = inr (fault_more passages one room image fault)
 
+-- a front of a list with one more is the whole list, or a front of the others
+ends_or_within : (passages first more : List Passage) (one : Passage) → passages ++ one ∷ [] ≡ first ++ more
+    → (first ≡ passages ++ one ∷ []) ⊎ ((rest : List Passage) × (passages ≡ first ++ rest))
+ends_or_within passages [] more one parts = inr (passages, refl)
+ends_or_within [] (head ∷ []) more one parts =
+    let heads : one ≡ head = cc parts in
+    inl (ap (λ (it : Passage). it ∷ []) (sym heads))
+ends_or_within [] (head ∷ next ∷ first) more one parts =
+    let tails : ◌≡◌ {A = List Passage} [] (next ∷ (first ++ more)) = cc parts in
+    absurd (cc tails)
+ends_or_within (two ∷ passages) (head ∷ first) more one parts =
+    let heads : two ≡ head = cc parts in
+    let tails : passages ++ one ∷ [] ≡ first ++ more = cc parts in
+    elim (ends_or_within passages first more one tails) [
+      | inl whole ↦ inl (ap (λ (it : Passage). it ∷ first) (sym heads) ∙ ap (λ (list : List Passage). two ∷ list) whole)
+      | inr front ↦ inr (front.0, ap (λ (list : List Passage). two ∷ list) front.1 ∙ ap (λ (it : Passage). it ∷ (first ++ front.0)) heads)
+    ]
+
+-- what holds behind each front of the passages, and behind all with one more, holds behind each front of these
+along_more : (passages : List Passage) (one : Passage) (old : RoomView) (first more : List Passage) → passages ++ one ∷ [] ≡ first ++ more
+    → IsBehind (passages ++ one ∷ []) old → ((rest : List Passage) → passages ≡ first ++ rest → IsBehind first old) → IsBehind first old
+along_more passages one old first more parts whole front =
+    let B : List Passage → Type 0 = λ list. IsBehind list old in
+    elim (ends_or_within passages first more one parts) [
+      | inl all ↦ subst B (sym all) whole
+      | inr some ↦ front some.0 some.1
+    ]
+
 module _ (passages : List Passage) (call : Call) (deeds : List Deed) (old new : RoomView) (before disk now : DiskView) where
   abbrev at : RoomView
   at = behind_all passages old
@@ -192,11 +225,16 @@ module _ (passages : List Passage) (call : Call) (deeds : List Deed) (old new : 
           let knows = knows_alike at.journal disk.reads from.0 (journal.first (from.0 0) (from.1 0)) (journal.second (from.0 1) (from.1 1)) journal.knows in
           ended_reopens deeds at from.0 image is performed.can performed.written (have_snapshots deeds at performed.can) knows (images_at from.0 from.1) opens from.2
 
+      catalogue_more : catalogue_of (after_all deeds at).catalogue ≡ made_by (trail_of more old) old.catalogue
+      catalogue_more = catalogue_now ∙ ap (λ (changes : List Stamped). made_by changes old.catalogue) (sym trail_more)
+
       leads_more : Leads more old (after_all deeds at) before now
       leads_more = record {
         ready = (let R : RoomView → Type 0 = λ room. Ready nothing_known room now in
             subst R performed.room (nothing_of (known_behind_all nothing_known deeds at) new now carried.ready));
-        catalogue = catalogue_now ∙ ap (λ (changes : List Stamped). made_by changes old.catalogue) (sym trail_more);
+        catalogue = catalogue_more;
+        along = λ first rest parts. along_more passages one old first rest parts
+            (ap (λ (room : RoomView). catalogue_of room.catalogue) (behind_one_more passages one old) ∙ catalogue_more) (leads.along first);
         images = λ image held. (let E : List Stamped → Type 0 = λ entry. ReopensNow (after_all deeds at).is_open entry (after_all deeds at).catalogue image in
             subst E (sym (left_one_more passages one old)) (image_now image held));
         moments = leaves_then before disk now (ReopensInRun more old)
@@ -402,14 +440,21 @@ module _ (passages : List Passage) (call : Call) (deeds : List Deed) (reopening 
         let E : List Stamped → Type 0 = λ entry. ReopensBehind entry shut.catalogue disk.reads in
         subst E (left_one_more passages last old) (subst B closed (leads.images disk.reads is_disk.reads_one))
 
+    catalogue_on : catalogue_of reopening.catalogue ≡ made_by (trail_of (passages ++ other ∷ []) old) old.catalogue
+    catalogue_on = found_one (failed deeds from) shut.catalogue reopening disk.reads few left_behind replays
+        ∙ made_alike found shut.catalogue (catalogue_behind (trail_of (passages ++ last ∷ []) old) old.catalogue)
+        (found_indexed reopening shut.catalogue.number (failed deeds from) (failed_indexed deeds from)) leads.catalogue
+        ∙ ap catalogue_of (sym (catalogue_append (trail_of (passages ++ last ∷ []) old) found old.catalogue))
+        ∙ ap (λ (changes : List Stamped). made_by changes old.catalogue) (sym trail_other)
+
     leads_on : Leads (passages ++ other ∷ []) old opened before now
     leads_on = record {
       ready = opened_is_ready reopening.catalogue reopening.journal now journal;
-      catalogue = found_one (failed deeds from) shut.catalogue reopening disk.reads few left_behind replays
-          ∙ made_alike found shut.catalogue (catalogue_behind (trail_of (passages ++ last ∷ []) old) old.catalogue)
-          (found_indexed reopening shut.catalogue.number (failed deeds from) (failed_indexed deeds from)) leads.catalogue
-          ∙ ap catalogue_of (sym (catalogue_append (trail_of (passages ++ last ∷ []) old) found old.catalogue))
-          ∙ ap (λ (changes : List Stamped). made_by changes old.catalogue) (sym trail_other);
+      catalogue = catalogue_on;
+      along = λ first rest parts. along_more passages other old first rest parts
+          (ap (λ (room : RoomView). catalogue_of room.catalogue) (behind_one_more passages other old) ∙ catalogue_on)
+          (λ (front : List Passage) (is : passages ≡ first ++ front). leads.along first (front ++ last ∷ [])
+          (ap (λ (list : List Passage). list ++ last ∷ []) is ∙ append_assoc first front (last ∷ [])));
       images = λ image held. reopens_kept IsSnapshot disk.reads image reopening.catalogue
           (record { first = journal.first (image 0) (held 0) ∙ quiet.reads 0; second = journal.second (image 1) (held 1) ∙ quiet.reads 1 }) replays;
       moments = leaves_quiet before disk now (ReopensInRun (passages ++ other ∷ []) old)

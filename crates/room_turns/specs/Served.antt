@@ -69,11 +69,18 @@ pub record IsServable (room : RoomView) (disk : DiskView) : Type 0 where
   pub ready : Ready nothing_known room disk
   pub reopens : (image : Image) → Images disk image → ReplaysTo image room.catalogue
 
+-- the room behind passages has the catalogue behind their trail
+abbrev pub IsBehind : List Passage → RoomView → Type 0
+IsBehind passages room = catalogue_of (behind_all passages room).catalogue
+    ≡ made_by (trail_of passages room) room.catalogue
+
 -- what a run leaves of a disk that tells its contents
 pub record Leads (passages : List Passage) (old new : RoomView) (before now : DiskView)
     : Type 0 where
   pub ready : Ready nothing_known new now
   pub catalogue : catalogue_of new.catalogue ≡ made_by (trail_of passages old) old.catalogue
+  -- so it is behind each front of the passages, each reopening among them
+  pub along : (first more : List Passage) → passages ≡ first ++ more → IsBehind first old
   pub images : (image : Image) → Images now image
       → ReopensNow new.is_open (left_open passages old) new.catalogue image
   pub moments : Leaves before now (ReopensInRun passages old)
