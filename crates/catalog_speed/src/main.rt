@@ -12,12 +12,7 @@ use catalog_snapshot::snapshot;
 use catalog_text::{decode_change, encode_change};
 use journal_replay::read_snapshot;
 use room_base::{Moment, Name};
-<<<<<<< HEAD
-use room_disk::{FolderStore, Store};
-=======
-use room_catalog::Catalogue;
 use room_disk::{Access, FolderLock, FolderStore, Store};
->>>>>>> abce9b4 (A disk of the system is made of the lock on its folder, and keeps it)
 use std::alloc::Global;
 use std::env;
 use std::process::ExitCode;
