@@ -11,7 +11,7 @@ use Rattle.desk_reply.specs.Replies.{reply_bytes}
 use Rattle.desk.specs.Exchanges.{Exchange, answer_text, passages_of, requests_of}
 use Rattle.desk.specs.Limits.{input_limit}
 use Rattle.desk.specs.Next.{IsReadingEnd, ReadsNext}
-use Rattle.desk.specs.Runs.{Around, FailsToOpen, HasEnded, HasWritten, IsLeft, Serves, Stays, WritesAll, around}
+use Rattle.desk.specs.Runs.{Around, FailsBeside, FailsToOpen, HasEnded, HasWritten, IsLeft, Serves, Stays, WritesAll, around}
 use Rattle.desk.specs.Steps.{OpensQuietly, Sends}
 use Rattle.desk.specs.Taken.{AsksCommand, HasRead, HasTaken}
 use Rattle.desk.specs.declared.end.DeskEnd.{DeskEnd}
@@ -100,6 +100,17 @@ module _ (exchanges : List Exchange) (old room : RoomView) (before mid : Around)
   reading_left (ends.DamagedJournal file place) is_open is opens = absurd is
   reading_left ends.ClockFault is_open is opens = absurd is
 
+  reading_beside : (end : DeskEnd) (now : Around) → IsReadingEnd end → FailsBeside end (passages_of exchanges) old before.disk now.disk
+  reading_beside ends.Done now is = tt
+  reading_beside (ends.BadInput offset) now is = tt
+  reading_beside ends.InputLimit now is = tt
+  reading_beside ends.ReadFault now is = tt
+  reading_beside ends.Memory now is = tt
+  reading_beside ends.WriteFault now is = absurd is
+  reading_beside ends.DiskFault now is = absurd is
+  reading_beside (ends.DamagedJournal file place) now is = absurd is
+  reading_beside ends.ClockFault now is = absurd is
+
   -- no request was read
   pub ended_reading : (input : SourceView) (rest : List ℕ) (after : ℕ) (end : DeskEnd) → IsTrue room.is_open → mid.input.faults ≤ input.faults
       → input.tells ≡ mid.input.tells → IsReadingEnd end → (end ≡ ends.ReadFault → Rose mid.input.faults input.faults)
@@ -119,6 +130,7 @@ module _ (exchanges : List Exchange) (old room : RoomView) (before mid : Around)
     };
     served = so_far.served;
     left = reading_left end room.is_open is opens;
+    beside = reading_beside end (around input mid.out mid.clock mid.disk) is;
   }
 
   -- there was no moment for a request
@@ -148,6 +160,7 @@ module _ (exchanges : List Exchange) (old room : RoomView) (before mid : Around)
     };
     served = so_far.served;
     left = opens;
+    beside = tt;
   }
 
   -- as many requests were read as there may be
@@ -164,6 +177,7 @@ module _ (exchanges : List Exchange) (old room : RoomView) (before mid : Around)
     };
     served = so_far.served;
     left = opens;
+    beside = tt;
   } where
     same_length : (list : List Exchange) → length (requests_of list) ≡ length list
     same_length [] = refl
@@ -195,6 +209,19 @@ module _ (exchanges : List Exchange) (old room : RoomView) (before mid : Around)
   not_opened_left ends.WriteFault was now is_open fails closed = absurd fails
   not_opened_left ends.ClockFault was now is_open fails closed = absurd fails
 
+  not_opened_beside : (end : DeskEnd) (now : DiskView) → FailsToOpen end mid.disk now → FailsBeside end (passages_of exchanges) old before.disk now
+  not_opened_beside ends.Memory now fails = tt
+  not_opened_beside ends.DiskFault now fails =
+      let least = so_far.served.faults fails.0 in
+      (fails.0, fails.1, omega (arith, least, fails.2))
+  not_opened_beside (ends.DamagedJournal file place) now fails = tt
+  not_opened_beside ends.Done now fails = tt
+  not_opened_beside (ends.BadInput offset) now fails = tt
+  not_opened_beside ends.InputLimit now fails = tt
+  not_opened_beside ends.ReadFault now fails = tt
+  not_opened_beside ends.WriteFault now fails = tt
+  not_opened_beside ends.ClockFault now fails = tt
+
   pub ended_closed : (end : DeskEnd) (disk : DiskView) → room.is_open ≡ false → FailsToOpen end mid.disk disk → OpensQuietly mid.disk disk
       → Serves end old room before (around mid.input mid.out mid.clock disk)
   ended_closed end disk closed fails quiet = record {
@@ -216,6 +243,7 @@ module _ (exchanges : List Exchange) (old room : RoomView) (before mid : Around)
     };
     served = served_quietly (passages_of exchanges) old room before.disk mid.disk disk so_far.served quiet;
     left = not_opened_left end mid.disk disk room.is_open fails closed;
+    beside = not_opened_beside end disk fails;
   }
 
 -- ---- a reply wasn't written
@@ -245,6 +273,7 @@ module _ (others : List Exchange) (last : Exchange) (reply : Reply) (old new : R
     };
     served = answered.served;
     left = tt;
+    beside = tt;
   }
   ended_sending ends.WriteFault out later tells sent = record {
     exchanges = all;
@@ -267,6 +296,7 @@ module _ (others : List Exchange) (last : Exchange) (reply : Reply) (old new : R
     };
     served = answered.served;
     left = tt;
+    beside = tt;
   }
   ended_sending ends.Done out later tells sent = absurd sent
   ended_sending (ends.BadInput offset) out later tells sent = absurd sent

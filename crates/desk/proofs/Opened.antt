@@ -51,6 +51,7 @@ module _ (passages : List Passage) (room new : RoomView) (before mid now : DiskV
       record {
         ready = leads.ready;
         catalogue = leads.catalogue;
+        along = leads.along;
         images = leads.images;
         moments = quiet_leaves before mid now (ReopensInRun passages room) (quiet.quiet told) leads.moments;
       }
@@ -79,6 +80,7 @@ served_quietly passages old new before mid now served quiet = record {
       record {
         ready = ready_quiet nothing_known new mid now same leads.ready;
         catalogue = leads.catalogue;
+        along = leads.along;
         images = λ image held. leads.images image (λ file. same.leaves file (image file) (held file));
         moments = leaves_quiet before mid now (ReopensInRun passages old) leads.moments same;
       });

@@ -1,16 +1,19 @@
 -- The whole run of a desk, from before its room is opened.
-use Rattle.std.proofs.Common.{inl, inr, [], refl, sym, subst, arith, append-nil}
-use Rattle.room_disk.specs.Disk.{DiskView}
+use Rattle.std.proofs.Common.{inl, inr, List, [], refl, sym, subst, arith, append-nil}
+use Rattle.room_base.specs.Outside.{Told}
+use Rattle.room_disk.specs.Disk.{DiskView, IsDisk}
 use Rattle.room_disk.proofs.Runs.{quiet_none}
 use Rattle.room_effects.specs.View.{RoomView, opened_room}
-use Rattle.room_turns.specs.Served.{Served}
+use Rattle.room_turns.specs.Runs.{Passage}
+use Rattle.room_turns.specs.Served.{Leads, Served}
 use Rattle.room_core.specs.Opening.{IsOpenedBy}
 use Rattle.desk.specs.Exchanges.{passages_of}
 use Rattle.desk.specs.Limits.{input_limit}
-use Rattle.desk.specs.Runs.{Around, DeskRuns, FailsToOpen, HasEnded, Serves, around}
+use Rattle.desk.specs.Runs.{Around, DeskRuns, FailsBeside, FailsToOpen, HasEnded, Serves, around}
 use Rattle.desk.specs.Steps.{OpensQuietly}
 use Rattle.desk.specs.declared.end.DeskEnd.{DeskEnd}
 use Rattle.desk.specs.declared.end.DeskEnd.TheVariants as ends
+use Rattle.desk.proofs.Crashes.{run_headline}
 use Rattle.desk.proofs.Ending.{not_opened_input, not_opened_out}
 use Rattle.desk.proofs.Opened.{leads_from, opened_servable, served_from}
 use Rattle.desk.proofs.SoFar.{still}
@@ -70,7 +73,21 @@ ended_since ends.ReadFault before now disk quiet ended = ended
 ended_since ends.WriteFault before now disk quiet ended = ended
 ended_since ends.ClockFault before now disk quiet ended = ended
 
-module _ (end : DeskEnd) (room new : RoomView) (before now : Around) (disk : DiskView) (opened : IsOpenedBy room before.disk disk) (quiet : OpensQuietly before.disk disk)
+beside_since : (end : DeskEnd) (passages : List Passage) (room : RoomView) (before disk now : DiskView) → OpensQuietly before disk
+    → FailsBeside end passages room disk now → FailsBeside end passages room before now
+beside_since ends.DiskFault passages room before disk now quiet fails =
+    let later = quiet.later fails.0 in
+    (fails.0, fails.1, omega (arith, later, fails.2))
+beside_since (ends.DamagedJournal file place) passages room before disk now quiet fails = tt
+beside_since ends.Memory passages room before disk now quiet fails = tt
+beside_since ends.Done passages room before disk now quiet fails = tt
+beside_since (ends.BadInput offset) passages room before disk now quiet fails = tt
+beside_since ends.InputLimit passages room before disk now quiet fails = tt
+beside_since ends.ReadFault passages room before disk now quiet fails = tt
+beside_since ends.WriteFault passages room before disk now quiet fails = tt
+beside_since ends.ClockFault passages room before disk now quiet fails = tt
+
+module _ (end : DeskEnd) (room new : RoomView) (before now : Around) (disk : DiskView) (is_disk : IsDisk before.disk) (opened : IsOpenedBy room before.disk disk) (quiet : OpensQuietly before.disk disk)
     (serves : Serves end room new (around before.input before.out before.clock disk) now) where
   abbrev first : RoomView
   first = opened_room opened.opening.catalogue opened.opening.journal
@@ -79,6 +96,14 @@ module _ (end : DeskEnd) (room new : RoomView) (before now : Around) (disk : Dis
   served_first =
       let S : RoomView → Type 0 = λ one. Served (passages_of serves.exchanges) one new disk now.disk in
       subst S opened.room_is serves.served
+
+  beside_first : FailsBeside end (passages_of serves.exchanges) first disk now.disk
+  beside_first =
+      let F : RoomView → Type 0 = λ one. FailsBeside end (passages_of serves.exchanges) one disk now.disk in
+      subst F opened.room_is serves.beside
+
+  leads_first : Told before.disk.tells (Leads (passages_of serves.exchanges) first new before.disk now.disk)
+  leads_first = leads_from (passages_of serves.exchanges) first new before.disk disk now.disk quiet (opened_servable room before.disk disk opened quiet) served_first
 
   pub runs_opened : DeskRuns end before now
   runs_opened = record {
@@ -105,7 +130,10 @@ module _ (end : DeskEnd) (room new : RoomView) (before now : Around) (disk : Dis
       replays = opened.replays;
       room = new;
       served = served_from (passages_of serves.exchanges) first new before.disk disk now.disk quiet (opened_servable room before.disk disk opened quiet) served_first;
-      leads = leads_from (passages_of serves.exchanges) first new before.disk disk now.disk quiet (opened_servable room before.disk disk opened quiet) served_first;
+      leads = leads_first;
       left = serves.left;
+      beside = beside_since end (passages_of serves.exchanges) first before.disk disk now.disk quiet beside_first;
+      headline = λ told entry all. run_headline (passages_of serves.exchanges) entry before.disk now.disk is_disk told all opened.opening.catalogue
+          opened.opening.journal new (opened.replays told) (leads_first told);
     });
   }

@@ -12,17 +12,15 @@ use Rattle.room_turns.specs.Served.{ReopensInRun, ReopensNow, made_by}
 abbrev pub AllReopenAs : DiskView → CatalogueLists → Type 0
 AllReopenAs disk entry = (image : Image) → Images disk image → ReplaysTo image entry
 
--- The calls are a run from a room with the catalogue at entry to a last one. What a crash leaves at
--- any moment since the start reopens as the catalogue at entry after the first so many changes of
--- the trail, or after those before a fault of the journal and the entry that failed there. What a
--- crash leaves at the end reopens as the last catalogue, which is that after the whole trail; or,
--- where a fault of the journal closed the room, as that with the entry that failed.
-pub record Headline (passages : List Passage) (entry : CatalogueLists) (before now : DiskView)
-    : Type 0 where
-  pub first : RoomView
+-- The calls are a run from a first room, with the catalogue at entry, to a last one. What a crash
+-- leaves at any moment since the start reopens as the catalogue at entry after the first so many
+-- changes of the trail, or after those before a fault of the journal and the entry that failed there.
+-- What a crash leaves at the end reopens as the last catalogue, which is that after the whole trail;
+-- or, where a fault of the journal closed the room, as that with the entry that failed.
+pub record Headline (passages : List Passage) (entry : CatalogueLists) (first last : RoomView)
+    (before now : DiskView) : Type 0 where
   pub at_entry : catalogue_of first.catalogue ≡ catalogue_of entry
   pub moments : EachSince now before.moment (ReopensInRun passages first)
-  pub last : RoomView
   pub whole : catalogue_of last.catalogue ≡ made_by (trail_of passages first) first.catalogue
   pub ended : (image : Image) → Images now image
       → ReopensNow last.is_open (left_open passages first) last.catalogue image

@@ -1,16 +1,19 @@
 -- What a desk does.
-use Rattle.std.specs.Prelude.{◌≡◌, ◌⊎◌, ℕ, ◌≤◌, Bool, false, IsTrue, List, [], ◌∷◌, ◌++◌}
+use Rattle.std.specs.Prelude.{◌≡◌, ◌⊎◌, ℕ, ◌+◌, ◌≤◌, Bool, false, IsTrue, List, [], ◌∷◌, ◌++◌}
 use Rattle.room_base.specs.Faults.{Rose}
 use Rattle.room_base.specs.Outside.{AddsFront, ClockView, SinkView, SourceView, Told}
 use Rattle.room_disk.specs.Disk.{DiskView, Quiet}
 use Rattle.cat_journal.specs.Journal.{IsJournalFile}
+use Rattle.room_catalog.specs.Held.{CatalogueLists}
 use Rattle.room_catalog.specs.Invariant.{IsHeld}
 use Rattle.room_effects.specs.View.{IsJournalOf, RoomView, opened_room}
+use Rattle.room_effects.specs.Running.{risen_by}
 use Rattle.journal_files.specs.Files.{IsDamaged, ReplaysTo}
-use Rattle.room_turns.specs.Runs.{Passage, Reopening}
+use Rattle.room_turns.specs.Runs.{Passage, Reopening, failures_in}
 use Rattle.room_turns.specs.Served.{Leads, Served}
 use Rattle.desk.specs.Exchanges.{AreAsked, AreTimed, Exchange, answer_text, passages_of}
 use Rattle.desk.specs.Exchanges.{requests_of, text_of}
+use Rattle.desk.specs.Headline.{AllReopenAs, Headline}
 use Rattle.desk.specs.Taken.{HasTaken}
 use Rattle.desk.specs.declared.end.DeskEnd.{DeskEnd}
 use Rattle.desk.specs.declared.end.DeskEnd.TheVariants as ends
@@ -107,12 +110,20 @@ IsLeft ends.Memory is_open = Unit {0}
 IsLeft ends.WriteFault is_open = Unit {0}
 IsLeft _ is_open = IsTrue is_open
 
+-- Opening the room again failed beside the calls: a count of the journal rose once more than by what
+-- failed in them.
+abbrev pub FailsBeside : DeskEnd → List Passage → RoomView → DiskView → DiskView → Type 0
+FailsBeside ends.DiskFault passages room before now = (file : ℕ) × IsJournalFile file
+    × (risen_by (failures_in file passages room + 1) (before.faults file) ≤ now.faults file)
+FailsBeside _ passages room before now = Unit {0}
+
 -- from an open room on
 pub record Serves (end : DeskEnd) (old new : RoomView) (before now : Around) : Type 0 where
   pub exchanges : List Exchange
   pub trades : Trades end exchanges before now
   pub served : Served (passages_of exchanges) old new before.disk now.disk
   pub left : IsLeft end new.is_open
+  pub beside : FailsBeside end (passages_of exchanges) old before.disk now.disk
 
 -- The room was opened, with the catalogue that the journal's files replayed to, and these are the
 -- calls of it.
@@ -127,6 +138,9 @@ pub record RunsRoom (end : DeskEnd) (passages : List Passage) (before now : Disk
   pub leads : Told before.tells
       (Leads passages (opened_room opening.catalogue opening.journal) room before now)
   pub left : IsLeft end room.is_open
+  pub beside : FailsBeside end passages (opened_room opening.catalogue opening.journal) before now
+  pub headline : Told before.tells ((entry : CatalogueLists) → AllReopenAs before entry
+      → Headline passages entry (opened_room opening.catalogue opening.journal) room before now)
 
 -- The room wasn't opened, and nothing was done.
 pub record OpensNoRoom (end : DeskEnd) (passages : List Passage) (before now : DiskView)

@@ -2,6 +2,7 @@
 
 ghost use Rattle.std.specs.Prelude.{◌⊎◌, IsTrue, List};
 ghost use Rattle.room_catalog.specs.Held.{CatalogueLists};
+ghost use Rattle.room_effects.specs.View.{RoomView};
 ghost use Rattle.room_turns.specs.Runs.{Passage};
 ghost use Rattle.desk.specs.declared.end.DeskEnd.{DeskEnd};
 ghost use Rattle.desk.specs.Headline.{AllReopenAs, Headline};
@@ -18,5 +19,6 @@ pub fn crashes_keep_the_trail<D: Store>(before: &D, now: &D)
         → IsTrue (D.view before.now).tells → AllReopenAs (D.view before.now) entry
         → (RunsRoom end passages (D.view before.now) (D.view now.now)
         ⊎ OpensNoRoom end passages (D.view before.now) (D.view now.now))
-        → Headline passages entry (D.view before.now) (D.view now.now) }
+        → (first : RoomView) × ((last : RoomView)
+        × Headline passages entry first last (D.view before.now) (D.view now.now)) }
 {}

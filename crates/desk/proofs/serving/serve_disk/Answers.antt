@@ -22,4 +22,4 @@ returns-in-Ok g c =
     runs_opened c.serve.result c.in-Ok.room c.serve.new.room
     (around (g.S.Source.view c.args.input.now) (g.W.Sink.view c.args.out.now) (g.C.Clock.view c.args.clock.now) (g.D.Store.view c.args.disk.now))
     (around (g.S.Source.view c.serve.new.input) (g.W.Sink.view c.serve.new.out) (g.C.Clock.view c.serve.new.clock) (g.D.Store.view c.serve.new.disk))
-    (g.D.Store.view c.open.new.disk) c.in-Ok.ensures.opened c.in-Ok.ensures.quiet c.serve.ensures
+    (g.D.Store.view c.open.new.disk) (g.met.D.Store.is_disk c.args.disk.now) c.in-Ok.ensures.opened c.in-Ok.ensures.quiet c.serve.ensures
