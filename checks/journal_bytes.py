@@ -340,6 +340,11 @@ OPENING = {
 }
 
 
+def plain(room):
+    """A copy that is compared: bytes by their digits, tuples as lists."""
+    return json.loads(json.dumps(room, default=lambda one: one.hex()))
+
+
 def read_front(content, what):
     """The form, the generation, the number and the snapshot of a journal file, and where its entries begin."""
     check(content[:1] == b"J", "%s isn't open" % what)
@@ -361,7 +366,7 @@ def read_front(content, what):
 def read_journal(content, what):
     """The form and the generation, the room behind the entries, and the kinds of changes."""
     form, generation, room, at = read_front(content, what)
-    first = json.loads(json.dumps(room, default=lambda one: one.hex()))
+    first = plain(room)
     room, kinds = Room(room), []
     last = room.room["number"]
     while content[at : at + 1] == b"E":
@@ -533,21 +538,18 @@ def run(folder):
     first = read_file(folder, "journal.0")
     form, generation, opening, room, kinds = read_journal(first, "journal.0")
     check((form, generation) == (2, 1), "the first file has another form or generation")
-    wanted = json.loads(json.dumps(OPENING, default=lambda one: one.hex()))
-    check(opening == wanted, "a new room's snapshot is another")
+    check(opening == plain(OPENING), "a new room's snapshot is another")
     check(set(kinds) == {1, 2, 3, 4, 5, 6, 7, 8, 9, 10, 11, 14, 15}, "kinds of changes are missing: %s" % sorted(set(kinds)))
     check(kinds.count(14) == 3, "there are %d parts" % kinds.count(14))
     compare(folder, room)
-    # The same without the large set: parts aren't allowed in a file of form 1.
     return len(first), len(kinds)
 
 
 def run_moving(folder):
-    requests = [asked for asked in first_script()]
-    small = [asked for asked in requests if b"/sets/4" not in asked.split(b"\r\n")[0] and b"/many" not in asked]
-    # Without the large set the numbers of the later ones would be others, so they are left out too.
-    cut = next(place for place, asked in enumerate(small) if b"/short" in asked)
-    done(folder, small[:cut] + [ask("POST /sets/2/amend", browse=1, retain=2), request("POST /nsrim")])
+    """The large set comes last, since a file of form 1 has no parts."""
+    requests = first_script()
+    cut = next(place for place, asked in enumerate(requests) if b"/many" in asked)
+    done(folder, requests[:cut] + [ask("POST /sets/2/amend", browse=1, retain=2), request("POST /nsrim")])
     done(folder, [request("DELETE /resources/group/empty"), request("DELETE /resources/schedule/Work")])
     content = of_first_form(read_file(folder, "journal.0"))
     with open(os.path.join(folder, "journal.0"), "wb") as target:
@@ -562,7 +564,9 @@ def run_moving(folder):
     form, generation, snapshot, room, kinds = read_journal(read_file(folder, "journal.1"), "journal.1")
     check((form, generation) == (2, 2) and kinds == [14, 14, 14, 15], "the journal has moved otherwise: %s" % kinds)
     check(len(snapshot["records"]) == 5 and any(record["index"] for record in snapshot["records"]), "the snapshot has no indexes")
-    check(read_journal(read_file(folder, "journal.0"), "journal.0 that was left")[:2] == (1, 1), "the old file is another")
+    form, generation, _, left, _ = read_journal(read_file(folder, "journal.0"), "journal.0 that was left")
+    check((form, generation) == (1, 1), "the old file is another")
+    check(plain(left.room) == snapshot, "the snapshot isn't what the old file's changes make")
     compare(folder, room)
 
 
