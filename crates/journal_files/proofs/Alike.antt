@@ -9,12 +9,12 @@ use Rattle.media_db.specs.Rows.{volume_on}
 use Rattle.media_db.specs.declared.records.Record.{Record}
 use Rattle.media_db.specs.declared.volumes.VolumeRec.{VolumeRec}
 use Rattle.client_index.specs.declared.index.SetIndex.{SetIndex}
-use Rattle.client_index.specs.Sets.{forget, put}
+use Rattle.client_index.specs.Sets.{forget, forget_each, put}
 use Rattle.catalog_change.specs.Catalogues.{Catalogue}
 use Rattle.catalog_change.specs.declared.change.Change.{Change}
 use Rattle.catalog_change.specs.declared.change.Change.TheVariants.{Labelled, Finished, Deleted, Purged, IndexPart, FinishedParts}
 use Rattle.room_catalog.specs.Applying.{is_among}
-use Rattle.room_catalog.specs.Changing.{forget_each, forget_off, forget_row_off, lists_after, sets_off}
+use Rattle.room_catalog.specs.Changing.{forget_off, forget_row_off, lists_after, sets_off}
 use Rattle.room_catalog.specs.Held.{CatalogueLists, Parts, catalogue_of, index_in, resources_of}
 use Rattle.room_catalog.proofs.Found.{index_forgotten, index_purged, index_put}
 use Rattle.room_effects.specs.Reopening.{AreAlike}
