@@ -13,9 +13,9 @@ fail() {
     echo "speed-catalogue: $1"
     exit 1
 }
-program=$top/crates/catalog_speed/out/catalog_speed
-[ -x "$program" ] || (cd "$top/crates/catalog_speed" && rt run) >/dev/null 2>&1
-[ -x "$program" ] || fail "catalog_speed can't be built"
+program=$top/crates/speed/out/speed
+[ -x "$program" ] || (cd "$top/crates/speed" && rt run) >/dev/null 2>&1
+[ -x "$program" ] || fail "speed can't be built"
 cd "$work" || exit 1
 mkdir snapshot finished || exit 1
 python3 - <<'END' || exit 1
@@ -75,8 +75,8 @@ END
 # rate NAME FOLDER WORK TIMES: so many times more, against none.
 rate() {
     local none all
-    none=$({ TIMEFORMAT=%R; time "$program" "$2" 0 "$3" || echo broken; } 2>&1)
-    all=$({ TIMEFORMAT=%R; time "$program" "$2" "$4" "$3" || echo broken; } 2>&1)
+    none=$({ TIMEFORMAT=%R; time "$program" "$3" "$2" 0 || echo broken; } 2>&1)
+    all=$({ TIMEFORMAT=%R; time "$program" "$3" "$2" "$4" || echo broken; } 2>&1)
     case $none$all in *broken*) fail "$1 isn't read" ;; esac
     python3 -c "
 import os

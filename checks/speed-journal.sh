@@ -13,9 +13,9 @@ fail() {
     echo "speed-journal: $1"
     exit 1
 }
-program=$top/crates/open_speed/out/open_speed
-[ -x "$program" ] || (cd "$top/crates/open_speed" && rt run) >/dev/null 2>&1
-[ -x "$program" ] || fail "open_speed can't be built"
+program=$top/crates/speed/out/speed
+[ -x "$program" ] || (cd "$top/crates/speed" && rt run) >/dev/null 2>&1
+[ -x "$program" ] || fail "speed can't be built"
 cd "$work" || exit 1
 
 # journal FOLDER SNAPSHOT ENTRIES SIZE: a journal with a snapshot of so many bytes, and so many entries of a size.
@@ -54,7 +54,7 @@ least() {
     printf '%-45s %8d %8d\n' "$name" "$wall" "$cpu"
 }
 printf '%-45s %8s %8s\n' "Milliseconds" clock proc
-least "open 65,536 entries of 300 bytes" "$program" entries
+least "open 65,536 entries of 300 bytes" "$program" open entries
 least "sha256sum of the same" sha256sum entries/journal.0
-least "open 200 MB" "$program" snapshot
+least "open 200 MB" "$program" open snapshot
 least "sha256sum of the same" sha256sum snapshot/journal.0

@@ -136,14 +136,14 @@ done
 
 # commits UNITS: how many files of 64 full data blocks of so many units are committed a second by the clock,
 # the most of all rounds, and their megabytes.
-commits_program=$top/crates/commit_speed/out/commit_speed
+commits_program=$top/crates/speed/out/speed
 commits() {
     local files=40 least= began took
     for _ in $(seq $rounds); do
         rm -rf "commits"
         mkdir "commits"
         began=$(date +%s%N)
-        "$commits_program" commits "$1" $files || fail "commit_speed ended with $?"
+        "$commits_program" commit commits "$1" $files || fail "speed ended with $?"
         took=$(($(date +%s%N) - began))
         [ "${least:-$took}" -lt $took ] || least=$took
     done
@@ -152,13 +152,13 @@ commits() {
         printf "%-34s %7.1f commits a second %7.1f MB a second\n",
             "64 blocks of " units * 4096 " bytes", second, second * 64 * 4096 * units / 1e6 }'
 }
-[ -x "$commits_program" ] || (cd "$top/crates/commit_speed" && rt run) >/dev/null 2>&1
+[ -x "$commits_program" ] || (cd "$top/crates/speed" && rt run) >/dev/null 2>&1
 if [ -x "$commits_program" ]; then
     echo
     commits 1
     commits 16
 else
-    echo "speed-put-get: commits aren't measured, since commit_speed can't be built"
+    echo "speed-put-get: commits aren't measured, since speed can't be built"
 fi
 
 head -c 1 files/1 >byte

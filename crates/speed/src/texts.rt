@@ -1,49 +1,40 @@
-//! `catalog_speed FOLDER TIMES WORK` does its work on the text in the file `journal.0` of a folder so
-//! many times: `decode` and `encode` a change, `read` and `write` a snapshot. It is a measure, which
-//! a script runs and times.
-#![tactic(auto)]
+//! The texts of a catalogue are read and written.
 
 ghost use Rattle.std.specs.Prelude.{◌≤◌};
 ghost use Rattle.room_base.specs.Numbers.{max_moment};
 ghost use Rattle.catalog_change.specs.Changes.{IsChange};
 
+use crate::words::{folder_of, number_at};
 use catalog_change::Change;
 use catalog_snapshot::snapshot;
 use catalog_text::{decode_change, encode_change};
 use journal_replay::read_snapshot;
-use room_base::{Moment, Name};
+use room_base::Moment;
 use room_disk::{Access, FolderLock, FolderStore, Store};
 use std::alloc::Global;
-use std::env;
-use std::process::ExitCode;
 
-fn main(rt: HostRuntime) -> ExitCode {
-    match measure(&rt) {
-        Some(()) => ExitCode::SUCCESS,
-        None => ExitCode::FAILURE,
-    }
+/// What is done with a text.
+#[derive(Clone, Copy)]
+pub enum Text {
+    Decoded,
+    Encoded,
+    Read,
+    Written,
 }
 
-fn measure(rt: &HostRuntime) -> Option<()> {
+/// Does the work on the text in file 0 of the folder, so many times.
+pub fn work_on(rt: &HostRuntime, work: Text) -> Option<()> {
     let alloc = rt.alloc();
-    let folder = word_at(rt, 1)?;
-    let folder = Name::read(alloc, folder.as_bytes(), 4096).ok()?;
-    let times = word_at(rt, 2)?.as_str().parse::<u32>().ok()?;
-    let work = word_at(rt, 3)?;
-    let lock = FolderLock::take(rt, folder, Access::Reads).ok()?;
+    let times = number_at(rt, 3)?;
+    let lock = FolderLock::take(rt, folder_of(rt)?, Access::Reads).ok()?;
     let mut disk = FolderStore::new(rt, alloc, lock);
     let text = text_of(alloc, &mut disk)?;
-    match work.as_str() {
-        "decode" => decode(alloc, &text, times),
-        "encode" => encode(alloc, &text, times),
-        "read" => read(alloc, &text, times),
-        "write" => write(alloc, &text, times),
-        _ => None,
+    match work {
+        Text::Decoded => decode(alloc, &text, times),
+        Text::Encoded => encode(alloc, &text, times),
+        Text::Read => read(alloc, &text, times),
+        Text::Written => write(alloc, &text, times),
     }
-}
-
-fn word_at(rt: &HostRuntime, place: usize) -> Option<String> {
-    env::args(rt).ok()?.skip(place).next()
 }
 
 // The bytes of file 0.

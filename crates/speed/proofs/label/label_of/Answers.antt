@@ -2,7 +2,7 @@ use Rattle.std.proofs.Common.{ℕ, List, [], ◌∷◌, refl, arith, rules}
 use Rattle.std.proofs.lemmas.Str.{IsUtf8-from_ascii}
 use Rattle.std.proofs.lemmas.List.Elements.{All-from_recursion}
 use Rattle.room_base.specs.Text.{IsPrintable, IsName}
-use Rattle.commit_speed.proofs.label.label_of.Goals as goal
+use Rattle.speed.proofs.label.label_of.Goals as goal
 
 raw : List ℕ
 raw = 82 ∷ 97 ∷ 119 ∷ []

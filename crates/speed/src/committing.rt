@@ -1,38 +1,22 @@
-//! `commit_speed FOLDER UNITS FILES` labels cartridge 1 of a folder for data blocks of so many units
-//! and commits files of 64 full data blocks to it. It is a measure, which a script runs and times.
-#![tactic(auto)]
+//! Files are committed to a cartridge.
 
 ghost use Rattle.std.specs.Prelude.{◌≤◌};
 ghost use Rattle.volume_block.specs.Layout.{IsUnits};
 
-mod files;
-mod label;
-mod words;
-
 use crate::files::commit_files;
 use crate::label::label_of;
-use crate::words::{Words, read_words};
+use crate::words::{folder_of, number_at};
 use chunk_mux::MuxBuffer;
 use room_base::Name;
 use room_disk::{Access, FolderLock, FolderStore};
 use std::alloc::Global;
-use std::process::ExitCode;
 use volume_store::{FIRST_MARK, Volume, write_label};
 
-fn main(rt: HostRuntime) -> ExitCode {
-    match commit_in(&rt) {
-        Some(()) => ExitCode::SUCCESS,
-        None => ExitCode::FAILURE,
-    }
-}
-
-// Labels the cartridge and commits the files.
-fn commit_in(rt: &HostRuntime) -> Option<()> {
-    let Words {
-        folder,
-        units,
-        files,
-    } = read_words(rt)?;
+/// Labels the cartridge and commits the files.
+pub fn commit_in(rt: &HostRuntime) -> Option<()> {
+    let folder = folder_of(rt)?;
+    let units = number_at(rt, 3)?;
+    let files = number_at(rt, 4)?;
     match units {
         1 | 2 | 4 | 8 | 16 => commit_of(rt, folder, units, files),
         _ => None,

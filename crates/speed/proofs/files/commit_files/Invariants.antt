@@ -1,6 +1,6 @@
 use Rattle.std.proofs.Common.{◌≡◌, ◌≤◌, ℕ}
 use Rattle.volume_block.specs.Valid.{IsLabel}
-use Rattle.commit_speed.proofs.files.commit_files.Given as goal
+use Rattle.speed.proofs.files.commit_files.Given as goal
 
 -- the volume keeps its label and its cartridge, and no count of faults falls
 abbrev pub invariant-loop-count : goal.invariant-loop-count
