@@ -1,4 +1,4 @@
-use Rattle.std.proofs.Common.{◌≡◌, ◌∷◌, [], ap, ◌∙◌, subst, sym}
+use Rattle.std.proofs.Common.{◌≡◌, ◌∷◌, [], ap, ◌∙◌, inl, subst, sym}
 use Rattle.std.specs.Prelude.{Option, Result, Ok, Err}
 use Rattle.room_base.specs.declared.refusal.Refusal.TheVariants.{NoMemory}
 use Rattle.media_db.specs.Rows.{volume_on}
@@ -13,7 +13,7 @@ use Rattle.room_effects.specs.Effects.{PutIn, SeenVolume}
 use Rattle.room_effects.proofs.Sending.{does_put_in}
 use Rattle.room_effects.specs.Checked.{checked}
 use Rattle.room_effects.specs.Plans.{Follows}
-use Rattle.room_effects.proofs.Checking.{follows_behind, follows_checked, follows_unread}
+use Rattle.room_effects.proofs.Checking.{follows_behind, follows_checked, follows_checks, follows_unread}
 use Rattle.room_effects.proofs.Following.{follows_done, follows_no_memory}
 use Rattle.room_media.specs.Mounting.{mounted_own, put_in_plan}
 use Rattle.room_media.proofs.Putting.{can_put, looked_at, own_is}
@@ -55,6 +55,23 @@ returns-in-Err-put_in g c =
       looked_at c.args.cart answer c.in-Ok.ensures.reads c.in-Ok.ensures.cart,
       follows_behind c.args.cart.0 (SeenVolume answer) room {T = Result Volume MountFault} answer rest (Refused NoMemory) c.put_in.new.self.room before mid mid
           c.in-Ok.ensures.seen (subst F (sym c.in-Err-put_in.ensures.kept) (follows_no_memory rest room mid)),
+    )
+
+pub returns-in-Err-mounted_own : goal.returns-in-Err-mounted_own
+returns-in-Err-mounted_own g c =
+    let room = c.args.room.now.room in
+    let before = g.D.Store.view c.args.store.now in
+    let mid = g.D.Store.view c.look_for_volume.new.store in
+    let answer = c.in-Ok.answer in
+    let volume = volume_on c.args.cart.0 room.catalogue.volumes in
+    let refusal = c.in-Err-mounted_own.refusal in
+    let is : Err refusal ≡ mounted_own volume c.args.cart answer =
+    c.in-Err-mounted_own.ensures ∙ ap (λ (v : Option VolumeRec). mounted_own v c.args.cart answer) c.volume_on.ensures in (
+      answer,
+      looked_at c.args.cart answer c.in-Ok.ensures.reads c.in-Ok.ensures.cart,
+      follows_behind c.args.cart.0 (SeenVolume answer) room {T = Result Volume MountFault} answer
+          (checked {X = Volume} (mounted_own volume c.args.cart answer) (put_in_plan c.args.drive)) (Refused refusal) room before mid mid c.in-Ok.ensures.seen
+          (follows_checks {X = Volume} (mounted_own volume c.args.cart answer) (put_in_plan c.args.drive) refusal room mid (inl is)),
     )
 
 pub returns-in-Err : goal.returns-in-Err
