@@ -1,5 +1,5 @@
 use Rattle.std.proofs.Common.{inl, inr}
-use Rattle.room_run.proofs.run.obey.Goals as goal
+use Rattle.room_run.proofs.running.obey.Goals as goal
 
 pub returns-in-Ok-Get : goal.returns-in-Ok-Get
 returns-in-Ok-Get g c =

@@ -1,4 +1,4 @@
-use Rattle.room_run.proofs.report.report_unlocked.Goals as goal
+use Rattle.room_run.proofs.reporting.report_unlocked.Goals as goal
 
 pub returns-in-InUse-clause-reported : goal.returns-in-InUse-clause-reported
 returns-in-InUse-clause-reported g c = rw (← c.in-InUse.ensures) c.write_line.ensures.reported

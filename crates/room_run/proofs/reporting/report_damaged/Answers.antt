@@ -4,7 +4,7 @@ use Rattle.std.specs.Fmt.{decimal}
 use Rattle.room_base.specs.Outside.{WritesText}
 use Rattle.room_run.specs.Report.{damaged_line}
 use Rattle.room_run.proofs.Lines.{line_written}
-use Rattle.room_run.proofs.report.report_damaged.Goals as goal
+use Rattle.room_run.proofs.reporting.report_damaged.Goals as goal
 
 pub returns-clause-reported : goal.returns-clause-reported
 returns-clause-reported g c =

@@ -6,7 +6,7 @@ ghost use Rattle.room_run.specs.Run.{world, Ends};
 use crate::Status;
 use crate::get::get;
 use crate::put::put;
-use crate::report::report;
+use crate::reporting::report;
 use crate::serving::serve_desk;
 use crate::words::{Command, read_words};
 use room_base::{Clock, Sink, Source};

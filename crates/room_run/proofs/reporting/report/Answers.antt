@@ -1,6 +1,6 @@
 use Rattle.std.proofs.Common.{List, ℕ, subst}
 use Rattle.room_run.specs.Report.{usage_line, WritesLine}
-use Rattle.room_run.proofs.report.report.Goals as goal
+use Rattle.room_run.proofs.reporting.report.Goals as goal
 
 pub returns-in-Usage-clause-reported : goal.returns-in-Usage-clause-reported
 returns-in-Usage-clause-reported g c = λ told.

@@ -3,7 +3,7 @@ use Rattle.std.specs.Prelude.{codes}
 use Rattle.room_base.specs.Outside.{WritesText}
 use Rattle.room_run.specs.Report.{bad_input_line}
 use Rattle.room_run.proofs.Lines.{line_written}
-use Rattle.room_run.proofs.report.report_bad_input.Goals as goal
+use Rattle.room_run.proofs.reporting.report_bad_input.Goals as goal
 
 pub returns-clause-reported : goal.returns-clause-reported
 returns-clause-reported g c =

@@ -3,7 +3,7 @@ use Rattle.std.specs.Prelude.{codes}
 use Rattle.std.proofs.lemmas.Result.{err_from_is_err_and}
 use Rattle.room_base.specs.Refusals.{refusal_text}
 use Rattle.room_base.proofs.Writing.{text_then, text_stopped}
-use Rattle.room_run.proofs.report.write_refusal_line.Goals as goal
+use Rattle.room_run.proofs.reporting.write_refusal_line.Goals as goal
 
 pub returns-in_err-write_parts : goal.returns-in_err-write_parts
 returns-in_err-write_parts g c =
