@@ -1,0 +1,4 @@
+pub mod Bytes
+pub mod Sections
+pub mod Stages
+pub mod StreamAt
