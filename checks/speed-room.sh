@@ -1,11 +1,12 @@
 #!/usr/bin/env bash
-# Measures how long a request takes in a room of very many records: 65,536 finished save sets of one small file each
+# Measures how long a request takes in a room of very many records: 64,512 finished save sets of one small file each
 # are made through the desk, and then Show, Begin and Abort are asked 1,000 times each, and Nsrim once, which purges all
 # of them. The room lies in memory where there is such a folder, so that the syncs, which checks/speed-desk.sh has,
-# cost nothing. It is a measure: only a request that isn't done makes it fail. The arguments are the number of records
-# and the number of rounds, of which the least counts; without them they are 65536 and 3.
+# cost nothing. It is a measure: only a request that isn't done makes it fail. The arguments are the number of records,
+# which leaves room for the thousand that Begin adds, and of rounds, of which the least counts; without them they are 64512
+# and 3.
 top=$(cd "$(dirname "$0")/.." && pwd) || exit 1
-records=${1:-65536}
+records=${1:-64512}
 rounds=${2:-3}
 asked=1000
 for tool in python3 faketime; do
