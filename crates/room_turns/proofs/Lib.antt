@@ -16,3 +16,4 @@ pub mod Founding
 pub mod Serving
 pub mod Calling
 pub mod Refusing
+pub mod Repeating

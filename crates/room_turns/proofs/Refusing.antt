@@ -183,17 +183,15 @@ crashed_same (Done (Take ssid piece) ∷ deeds) room before image are crashed = 
 crashed_same (Done (Close ssid) ∷ deeds) room before image are crashed = absurd are
 crashed_same (Broken effect ∷ deeds) room before image are crashed = absurd are
 
--- ---- a refused call
+-- ---- a call that only read
 
-module _ (call : Call) (refusal : Refusal) (old new : RoomView) (is : call.reply ≡ replies.Refused refusal) (fine : IsNoFault refusal) (deeds : List Deed)
-    (answered : IsAnswer call old deeds) where
-  pub refused_room : (before now : DiskView) → Performed deeds old new before now → new ≡ old
-  refused_room before now performed = performed.room ∙ looks_keep deeds old (answer_reads call refusal old deeds is fine answered)
+module _ (call : Call) (old new : RoomView) (deeds : List Deed) (answered : IsAnswer call old deeds) (are : AreLooks deeds) where
+  pub kept_room : (before now : DiskView) → Performed deeds old new before now → new ≡ old
+  kept_room before now performed = performed.room ∙ looks_keep deeds old are
 
-  pub refused_disk : (before now : DiskView) → IsDisk before → IsDisk now → Performed deeds old new before now
+  pub kept_disk : (before now : DiskView) → IsDisk before → IsDisk now → Performed deeds old new before now
       → Told before.tells (Ready nothing_known old before → Quiet before now)
-  refused_disk before now is_before is_now performed told ready =
-      let are = answer_reads call refusal old deeds is fine answered in
+  kept_disk before now is_before is_now performed told ready =
       let carried = performed.told told nothing_known (answer_founded call old deeds answered) ready in
       record {
         reads = led_same deeds old before.reads now.reads are carried.reads;
@@ -226,3 +224,14 @@ module _ (call : Call) (refusal : Refusal) (old new : RoomView) (is : call.reply
         | inr not ↦ (let L : List ℕ → Type 0 = λ one. now.leaves other one in
             subst L (sym (cond-false (other == file) bytes (now.reads other) not.0)) (is_now.reads_one other))
       ]
+
+-- ---- a refused call
+
+module _ (call : Call) (refusal : Refusal) (old new : RoomView) (is : call.reply ≡ replies.Refused refusal) (fine : IsNoFault refusal) (deeds : List Deed)
+    (answered : IsAnswer call old deeds) where
+  pub refused_room : (before now : DiskView) → Performed deeds old new before now → new ≡ old
+  refused_room = kept_room call old new deeds answered (answer_reads call refusal old deeds is fine answered)
+
+  pub refused_disk : (before now : DiskView) → IsDisk before → IsDisk now → Performed deeds old new before now
+      → Told before.tells (Ready nothing_known old before → Quiet before now)
+  refused_disk = kept_disk call old new deeds answered (answer_reads call refusal old deeds is fine answered)

@@ -6,5 +6,8 @@
 mod calls;
 mod runs;
 
-pub use calls::{images_of_a_call_replay, refused_calls_keep, two_changes_at_most};
+pub use calls::{
+    images_of_a_call_replay, refused_calls_keep, repeated_ends_change_nothing,
+    repeated_pieces_change_nothing, two_changes_at_most,
+};
 pub use runs::{a_call_more, a_reopening, no_call};
