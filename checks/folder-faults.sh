@@ -1,9 +1,9 @@
 #!/usr/bin/env bash
 # What earlier runs wrote is there for later ones, and what can't be read is a fault and never taken for what isn't
-# there: a folder in the place of a cartridge or of a file of the journal, and files without the right to read or to
-# write them. Each ends with status 6, with its line and no output, and leaves everything as it was. Where root runs
-# this, the program is run as another user for the rights; where that can't be done, these are left out, which the
-# line says that is printed. Exits with 1 at the first failure.
+# there: a folder that a desk has while it waits for its input, a folder in the place of a cartridge or of a file of
+# the journal, and files without the right to read or to write them. Each ends with status 6, with its line and no
+# output, and leaves everything as it was. Where root runs this, the program is run as another user for the rights;
+# where that can't be done, these are left out, which the line says that is printed. Exits with 1 at the first failure.
 top=$(cd "$(dirname "$0")/.." && pwd) || exit 1
 work=$(mktemp -d) || exit 1
 trap 'chmod -R u+rwx "$work"; rm -rf "$work"' EXIT
@@ -66,6 +66,20 @@ fails() {
 fault='room: disk fault'
 
 user=()
+case="a folder that a desk has"
+mkfifo requests && { ./program room desk <requests >desk_out 2>desk_err & } || exit 1
+desk=$!
+exec 4>requests
+# Until the desk has the lock, which it keeps while it waits for its input.
+for _ in $(seq 100); do
+    flock -n -s room true || break
+    sleep 0.1
+done
+fails "$(printf 'room: disk fault\nroom: folder in use')" inventory get 7 1
+fails "$(printf 'room: disk fault\nroom: folder in use')" first put 7
+exec 4>&-
+wait $desk || fail "the desk that has the folder ended with $?: $(cat desk_err)"
+
 case="a folder in the place of a cartridge"
 mkdir room/cart.001
 fails "$fault" inventory get 1 1

@@ -1,6 +1,6 @@
 -- What the copies of a save set give, one after the other.
-use Rattle.std.proofs.Common.{◌≡◌, ℕ, ◌+◌, ◌<◌, ◌≤◌, ◌⊎◌, List, [], ◌∷◌, ◌++◌, ◌-◌, length, Some, None, refl, sym, ap, subst, ◌∙◌, arith, inl, inr}
-use Rattle.std.specs.Prelude.{Option, Result, Ok, Err, slice_index, if◌then◌else◌}
+use Rattle.std.proofs.Common.{◌≡◌, ℕ, ◌+◌, ◌<◌, ◌≤◌, List, [], ◌∷◌, ◌++◌, ◌-◌, length, Some, None, refl, sym, ap, subst, ◌∙◌, arith, inl, inr}
+use Rattle.std.specs.Prelude.{Option, Ok, Err, slice_index, if◌then◌else◌}
 use Rattle.std.specs.List.{find}
 use Rattle.std.specs.Option.{option_map, option_and_then}
 use Rattle.room_base.specs.declared.numbers.Cart.{Cart}
@@ -13,8 +13,8 @@ use Rattle.media_db.specs.declared.copies.Section.{Section}
 use Rattle.media_db.specs.declared.copies.SetCopy.{SetCopy}
 use Rattle.media_db.specs.declared.volumes.VolumeRec.{VolumeRec}
 use Rattle.recover_files.specs.Sections.{SectionGives, SectionLacks}
-use Rattle.recover_files.specs.Stages.{IsRun, HasBounds}
-use Rattle.recover_files.specs.StreamAt.{Follow, HasSections, covers_place, section_at, cart_at_home, spot_of, spot_at, Shelf, bytes_of, CopyGives, CopyLacks, CopiesGive, CopiesLack, CopiesAnswer, CopiesRun, BlamesOrFails, IsFailed, copies_in, StreamAt, AreBytes, FailsFirst, GivesRange}
+use Rattle.recover_files.specs.Stages.{CopiesRun, BlamesOrFails, IsFailed, IsRun, HasBounds}
+use Rattle.recover_files.specs.StreamAt.{Follow, HasSections, covers_place, section_at, cart_at_home, spot_of, spot_at, Shelf, bytes_of, CopyGives, CopyLacks, CopiesGive, CopiesLack, CopiesAnswer, copies_in, StreamAt, AreBytes, GivesRange}
 use Rattle.recover_files.specs.declared.run.Run.{Run}
 use Rattle.recover_files.specs.declared.fault.RangeFault.{RangeFault}
 use Rattle.recover_files.specs.declared.fault.RangeFault.TheVariants as faults

@@ -1,7 +1,7 @@
 -- The chunk that is found at a place of bytes, where these are a data block.
-use Rattle.std.proofs.Common.{◌≡◌, ◌≢◌, ℕ, ◌+◌, ◌-◌, ◌<◌, ◌≤◌, ◌⊎◌, List, [], ◌∷◌, length, take, drop, Some, None, refl, sym, ap, ◌∙◌, arith, inl, inr}
+use Rattle.std.proofs.Common.{ℕ, ◌+◌, ◌-◌, ◌<◌, ◌≤◌, List, [], ◌∷◌, length, take, drop, Some, None, refl, ap, arith}
 use Rattle.std.specs.Prelude.{Option, IfSome, MatchOption}
-use Rattle.std.proofs.lemmas.List.{length-take, length-drop, take_rest}
+use Rattle.std.proofs.lemmas.List.{length-drop, take_rest}
 use Rattle.volume_block.specs.Chunks.{ChunkText, count_in}
 use Rattle.volume_block.specs.Places.{SplitsAt, FindsFirst}
 use Rattle.volume_block.specs.Why.{used_in}

@@ -1,7 +1,7 @@
 -- Whether what stands at a block's place is a valid data block.
 use Rattle.std.proofs.Common.{◌≡◌, ℕ, ◌+◌, ◌-◌, ◌*◌, ◌<◌, ◌≤◌, List, ◌++◌, length, take, drop, min, refl, sym, ap, subst, ◌∙◌, arith, inl, inr}
 use Rattle.std.proofs.lemmas.List.{length-take, length-drop, take-take, take_all, take-append-le}
-use Rattle.std.specs.Prelude.{Result, Ok, Err, IfOk, Bool, true, false}
+use Rattle.std.specs.Prelude.{Result, Ok, Err, IfOk, true}
 use Rattle.room_base.specs.declared.fault.Failed.{Failed}
 use Rattle.volume_block.specs.Chunks.{ChunkText, chunks_text}
 use Rattle.volume_block.specs.Layout.{data_size}
@@ -15,7 +15,7 @@ use Rattle.volume_block.proofs.Lengths.{length-valid}
 use Rattle.volume_block.proofs.Sizes.{size_range, tells_own, tells_front, one_size}
 use Rattle.volume_store.specs.Committed.{part_at, block_at, data_at}
 use Rattle.volume_store.specs.Reads.{BeginsSize, StandsAt, HoldsBlocks, IsBad}
-use Rattle.volume_store.proofs.Finding.{one_stands, bad_at, stands_read}
+use Rattle.volume_store.proofs.Finding.{one_stands, bad_at}
 use Rattle.recover_files.specs.Bytes.{GiveByte, GiveNone}
 use Rattle.recover_files.specs.Sections.{HasChunks, IsInvalid, BlockGives, BlockLacks}
 use Rattle.recover_files.specs.Stages.{IsRun, JudgesData}

@@ -1,6 +1,9 @@
 pub mod Copies
 pub mod Covering
 pub mod Finding
+pub mod Joining
 pub mod Judging
+pub mod OneAnswer
 pub mod Places
+pub mod Recovering
 pub mod Walking

@@ -1,15 +1,13 @@
 -- The data blocks of a section, one after the other.
-use Rattle.std.proofs.Common.{◌≡◌, ◌≢◌, ℕ, ◌+◌, ◌-◌, ◌*◌, ◌/◌, ◌<◌, ◌≤◌, ◌⊎◌, List, length, refl, sym, ap, subst, ◌∙◌, arith, inl, inr, below_more}
-use Rattle.std.specs.Prelude.{◌↔◌, IsTrue, Option, Some, None}
+use Rattle.std.proofs.Common.{◌≡◌, ℕ, ◌+◌, ◌-◌, ◌/◌, ◌<◌, ◌≤◌, List, refl, sym, ap, subst, arith, inl, inr, below_more}
+use Rattle.std.specs.Prelude.{◌↔◌}
 use Rattle.std.proofs.Math.Nat.{le-div_iff_mul-le}
-use Rattle.volume_block.specs.declared.block.Block.{Block}
 use Rattle.volume_block.specs.declared.block.Block.TheVariants as kinds
 use Rattle.volume_block.specs.declared.label.Label.{Label}
-use Rattle.volume_store.specs.Reads.{StandsAt}
 use Rattle.volume_store.proofs.Finding.{one_stands}
 use Rattle.media_db.specs.declared.copies.Section.{Section}
-use Rattle.recover_files.specs.Sections.{BlockGives, BlockLacks, IsInvalid, units_of, LacksFirst, LacksMark, LacksLabel, HasUnits, by_first_block, by_its_mark, by_the_label, by_none_of_them, number_at, HasBlock, SectionGives, SectionLacks, IsFirstInvalid, AreValid, IsBlamed}
-use Rattle.recover_files.specs.Stages.{IsRun, HasBounds, IsFoundAt, TellsMark, TellsLabel}
+use Rattle.recover_files.specs.Sections.{BlockGives, BlockLacks, IsInvalid, units_of, HasUnits, by_first_block, by_its_mark, by_the_label, by_none_of_them, number_at, HasBlock, SectionGives, SectionLacks, IsBlamed}
+use Rattle.recover_files.specs.Stages.{IsRun, HasBounds}
 use Rattle.recover_files.specs.declared.run.Run.{Run}
 
 -- ---- the units

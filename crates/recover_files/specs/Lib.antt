@@ -1,4 +1,5 @@
 pub mod Bytes
+pub mod FileBytes
 pub mod Sections
 pub mod Stages
 pub mod StreamAt

@@ -1,7 +1,7 @@
 -- What the steps of reading a range do: how many bytes in a row one chunk gives, and how many in a
 -- row are known to be lacking.
 use Rattle.std.specs.Prelude.{◌≡◌, ℕ, ◌+◌, ◌≤◌, ◌<◌, List, length, slice_index, Bool}
-use Rattle.std.specs.Prelude.{true, false, Option, Some, None}
+use Rattle.std.specs.Prelude.{true, false, Option, Some, None, Result, Ok, Err}
 use Rattle.volume_block.specs.Chunks.{ChunkText, ssid_in, copy_in, offset_in, count_in}
 use Rattle.volume_block.specs.declared.block.Chunk.{Chunk}
 use Rattle.volume_block.specs.Valid.{HoldsChunks}
@@ -10,6 +10,10 @@ use Rattle.volume_block.specs.declared.block.Block.TheVariants as kinds
 use Rattle.volume_block.specs.declared.label.Label.{Label}
 use Rattle.volume_store.specs.Reads.{StandsAt}
 use Rattle.recover_files.specs.Sections.{HasChunks, IsInvalid}
+use Rattle.media_db.specs.declared.copies.SetCopy.{SetCopy}
+use Rattle.recover_files.specs.StreamAt.{Shelf, CopiesGive, CopiesAnswer, Blames}
+use Rattle.recover_files.specs.declared.fault.RangeFault.{RangeFault}
+use Rattle.recover_files.specs.declared.fault.RangeFault.TheVariants.{Failed}
 use Rattle.recover_files.specs.declared.run.Run.{Run}
 
 -- the chunk that was found is one of this copy, and covers the place
@@ -72,3 +76,23 @@ TellsLabel bytes volid number None =
     (label : Label) → ¬ StandsAt bytes volid number (kinds.Label label)
 TellsLabel bytes volid number (Some units) =
     (label : Label) × StandsAt bytes volid number (kinds.Label label) × (units ≡ label.units)
+
+-- ---- copies
+
+-- the bytes in a row that copies give from a place on, or why the one there can't be had
+abbrev pub CopiesRun : Shelf → ℕ → List SetCopy → ℕ → List ℕ → Result ℕ RangeFault → Type 0
+CopiesRun shelf ssid copies place bytes (Ok count) = (i : ℕ) → i < count
+    → CopiesGive shelf ssid copies (place + i) (slice_index bytes i)
+CopiesRun shelf ssid copies place bytes (Err (Failed file)) = Unit {0}
+CopiesRun shelf ssid copies place bytes (Err fault) =
+    CopiesAnswer shelf ssid copies place (Err fault)
+
+-- the disk failed
+abbrev pub IsFailed : RangeFault → Type 0
+IsFailed (Failed file) = Unit {0}
+IsFailed other = ⊥
+
+-- what is blamed, but where the disk failed
+abbrev pub BlamesOrFails : Shelf → List SetCopy → ℕ → RangeFault → Type 0
+BlamesOrFails shelf copies place (Failed file) = Unit {0}
+BlamesOrFails shelf copies place fault = Blames shelf copies place fault

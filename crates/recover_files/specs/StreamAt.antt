@@ -41,7 +41,7 @@ pub record IsOrderly (db : Database) : Type 0 where
 
 -- ---- where a byte may lie
 
--- the copies of a save set; none of one that isn't on record
+-- the copies of a save set, in the order of their numbers; none of one that isn't on record
 abbrev pub copies_in : Option Record → List SetCopy
 copies_in (Some row) = row.copies
 copies_in None = []
@@ -170,24 +170,6 @@ abbrev pub GivesRange : {T : Type 0} → Shelf → List Record → ℕ → ℕ �
 GivesRange shelf rows ssid from bytes (Ok _) = AreBytes shelf rows ssid from (length bytes) bytes
 GivesRange shelf rows ssid from bytes (Err (Failed file)) = Unit {0}
 GivesRange shelf rows ssid from bytes (Err fault) = FailsFirst shelf rows ssid from bytes fault
-
--- the bytes in a row that copies give from a place on, or why the one there can't be had
-abbrev pub CopiesRun : Shelf → ℕ → List SetCopy → ℕ → List ℕ → Result ℕ RangeFault → Type 0
-CopiesRun shelf ssid copies place bytes (Ok count) = (i : ℕ) → i < count
-    → CopiesGive shelf ssid copies (place + i) (slice_index bytes i)
-CopiesRun shelf ssid copies place bytes (Err (Failed file)) = Unit {0}
-CopiesRun shelf ssid copies place bytes (Err fault) =
-    CopiesAnswer shelf ssid copies place (Err fault)
-
--- the disk failed
-abbrev pub IsFailed : RangeFault → Type 0
-IsFailed (Failed file) = Unit {0}
-IsFailed other = ⊥
-
--- what is blamed, but where the disk failed
-abbrev pub BlamesOrFails : Shelf → List SetCopy → ℕ → RangeFault → Type 0
-BlamesOrFails shelf copies place (Failed file) = Unit {0}
-BlamesOrFails shelf copies place fault = Blames shelf copies place fault
 
 -- no count of faults falls, and a file is said to have failed only where its count rose
 pub record RangeCause {T : Type 0} (old new : DiskView) (answer : Result T RangeFault) :

@@ -5,10 +5,9 @@ ghost use Rattle.std.specs.List.{AllByRecursion};
 ghost use Rattle.room_base.specs.Outside.{Told};
 ghost use Rattle.room_disk.specs.Disk.{Quiet};
 ghost use Rattle.recover_files.specs.StreamAt.{IsOrderly, HasSections, LiesOnCart, shelf_of};
-ghost use Rattle.recover_files.specs.StreamAt.{CopyGives, CopyLacks, CopiesRun, BlamesOrFails};
-ghost use Rattle.recover_files.specs.StreamAt.{IsFailed};
+ghost use Rattle.recover_files.specs.StreamAt.{CopyGives, CopyLacks};
 ghost use Rattle.recover_files.specs.StreamAt.{GivesRange, RangeCause};
-ghost use Rattle.recover_files.specs.Stages.{IsRun, HasBounds};
+ghost use Rattle.recover_files.specs.Stages.{CopiesRun, BlamesOrFails, IsFailed, IsRun, HasBounds};
 
 use crate::RangeFault;
 use crate::run::{Run, Wanted};

@@ -1,4 +1,3 @@
-use Rattle.std.proofs.Common.{sym}
 use Rattle.volume_store.proofs.Finding.{stands_read}
 use Rattle.volume_block.specs.declared.block.Block.TheVariants as kinds
 use Rattle.recover_files.proofs.Judging.{data_read, mark_is_invalid, bad_is_invalid}

@@ -1,4 +1,4 @@
-use Rattle.std.proofs.Common.{◌<◌, arith}
+use Rattle.std.proofs.Common.{arith}
 use Rattle.volume_store.specs.Writes.{cart_file}
 use Rattle.recover_files.proofs.Judging.{invalid_lacks, run_of_block}
 use Rattle.recover_files.proofs.blocks.read_in_block.Goals as goal

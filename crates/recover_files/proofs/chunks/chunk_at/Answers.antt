@@ -1,5 +1,4 @@
-use Rattle.std.proofs.Common.{rules, IsTrue, ◌<◌, ◌≤◌, ◌+◌, length}
-use Rattle.volume_block.specs.Why.{used_in}
+use Rattle.std.proofs.Common.{rules, IsTrue}
 use Rattle.recover_files.proofs.Finding.{finds, no_head}
 use Rattle.recover_files.proofs.chunks.chunk_at.Goals as goal
 

@@ -1,4 +1,4 @@
-use Rattle.std.proofs.Common.{◌≡◌, ◌+◌, ◌≤◌, ℕ, List, Some, sym, ap, subst}
+use Rattle.std.proofs.Common.{◌≡◌, ℕ, sym, ap, subst}
 use Rattle.room_base.specs.declared.numbers.CopyNo.{CopyNo}
 use Rattle.volume_store.specs.Writes.{cart_file}
 use Rattle.recover_files.specs.Sections.{SectionGives, SectionLacks}

@@ -1,5 +1,5 @@
-use Rattle.std.proofs.Common.{◌≡◌, ◌+◌, ◌<◌, ◌≤◌, ◌∙◌, ◌∷◌, ◌++◌, List, ℕ, [], drop, length, length-append, sym, ap, subst, arith, rules, Some}
-use Rattle.std.specs.Prelude.{IsTrue, Result, Ok, Err}
+use Rattle.std.proofs.Common.{◌≡◌, ◌+◌, ◌<◌, ◌∙◌, ◌++◌, List, ℕ, length, length-append, sym, ap, subst, arith}
+use Rattle.std.specs.Prelude.{IsTrue, Ok, Err}
 use Rattle.std.specs.List.{AllByRecursion}
 use Rattle.std.proofs.lemmas.Cmp.{nat_cmp_total}
 use Rattle.std.proofs.lemmas.Result.{err_from_is_err_and}
@@ -7,9 +7,10 @@ use Rattle.room_base.proofs.OrderedLaws.{each_found}
 use Rattle.room_base.specs.declared.numbers.Ssid.{Ssid}
 use Rattle.room_disk.specs.Disk.{Image}
 use Rattle.room_disk.proofs.Runs.{quiet_then}
-use Rattle.media_db.specs.Rows.{ssid_of, find_record}
+use Rattle.media_db.specs.Rows.{ssid_of}
 use Rattle.media_db.specs.declared.records.Record.{Record}
-use Rattle.recover_files.specs.StreamAt.{HasSections, shelf_of, AreBytes, CopiesRun, GivesRange}
+use Rattle.recover_files.specs.Stages.{CopiesRun}
+use Rattle.recover_files.specs.StreamAt.{HasSections, shelf_of, AreBytes}
 use Rattle.recover_files.proofs.Copies.{range_fails, range_more, same_reads}
 use Rattle.recover_files.proofs.range.read_range.Goals as goal
 

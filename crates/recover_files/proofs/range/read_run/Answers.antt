@@ -1,12 +1,12 @@
-use Rattle.std.proofs.Common.{◌≡◌, ◌+◌, ◌<◌, ◌≤◌, ◌∙◌, ◌∷◌, List, ℕ, [], drop, length, sym, ap, subst, arith, rules}
+use Rattle.std.proofs.Common.{◌≡◌, ◌+◌, ◌∙◌, ◌∷◌, List, [], drop, subst, arith}
 use Rattle.std.specs.Prelude.{IsTrue}
 use Rattle.std.proofs.lemmas.Grind.{common_steps}
 use Rattle.std.proofs.lemmas.Result.{err_from_is_err_and}
 use Rattle.room_disk.specs.Disk.{Image}
 use Rattle.room_disk.proofs.Runs.{quiet_then}
 use Rattle.media_db.specs.declared.copies.SetCopy.{SetCopy}
-use Rattle.recover_files.specs.Stages.{IsRun}
-use Rattle.recover_files.specs.StreamAt.{shelf_of, CopyGives, CopyLacks, CopiesLack, BlamesOrFails}
+use Rattle.recover_files.specs.Stages.{BlamesOrFails, IsRun}
+use Rattle.recover_files.specs.StreamAt.{shelf_of, CopyGives, CopyLacks, CopiesLack}
 use Rattle.recover_files.proofs.Copies.{HasPassed, pass_more, pass_all, blames_run, failed_run, same_reads}
 use Rattle.recover_files.proofs.range.read_run.Goals as goal
 

@@ -1,9 +1,8 @@
-use Rattle.std.proofs.Common.{◌≡◌, ◌+◌, ◌<◌, ◌≤◌, ◌∙◌, List, ℕ, sym, subst, arith}
+use Rattle.std.proofs.Common.{◌≡◌, ◌∙◌, List, ℕ, sym, subst, arith}
 use Rattle.std.specs.Prelude.{IsTrue}
 use Rattle.room_disk.proofs.Runs.{quiet_then}
 use Rattle.volume_store.specs.Writes.{cart_file}
 use Rattle.recover_files.specs.Sections.{IsInvalid, IsBlamed, HasUnits, number_at}
-use Rattle.recover_files.specs.Stages.{TellsValid}
 use Rattle.recover_files.proofs.Places.{blames_first, blames_none, below_or_at}
 use Rattle.recover_files.proofs.sections.first_invalid.Goals as goal
 

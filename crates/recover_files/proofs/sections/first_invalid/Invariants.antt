@@ -1,4 +1,4 @@
-use Rattle.std.proofs.Common.{◌≡◌, ◌+◌, ◌-◌, ◌≤◌, ◌<◌, ℕ}
+use Rattle.std.proofs.Common.{◌≡◌, ◌-◌, ◌≤◌, ◌<◌, ℕ}
 use Rattle.room_base.specs.Outside.{Told}
 use Rattle.room_disk.specs.Disk.{Quiet}
 use Rattle.volume_store.specs.Writes.{cart_file}

@@ -1,6 +1,4 @@
-use Rattle.std.proofs.Common.{rules, arith, ◌≤◌, sym, subst, ℕ, ◌-◌, ◌/◌}
-use Rattle.std.specs.Prelude.{◌↔◌}
-use Rattle.recover_files.specs.Sections.{HasBlock}
+use Rattle.std.proofs.Common.{arith, ◌≤◌}
 use Rattle.recover_files.proofs.Places.{up_to_last}
 use Rattle.recover_files.proofs.sections.last_index.Goals as goal
 

@@ -1,8 +1,8 @@
-use Rattle.std.proofs.Common.{◌≡◌, ◌+◌, ◌<◌, ◌≤◌, ◌∙◌, List, ℕ, sym, subst, arith}
+use Rattle.std.proofs.Common.{◌≡◌, ◌∙◌, List, ℕ, sym, subst, arith}
 use Rattle.std.specs.Prelude.{IsTrue}
 use Rattle.room_disk.proofs.Runs.{quiet_then}
 use Rattle.volume_store.specs.Writes.{cart_file}
-use Rattle.recover_files.specs.Sections.{HasUnits, SectionGives, SectionLacks, BlockGives, BlockLacks, number_at}
+use Rattle.recover_files.specs.Sections.{HasUnits, SectionGives, SectionLacks, BlockGives, BlockLacks}
 use Rattle.recover_files.specs.Stages.{IsRun}
 use Rattle.recover_files.proofs.Places.{run_of_section, lacks_more}
 use Rattle.recover_files.proofs.sections.read_section.Goals as goal

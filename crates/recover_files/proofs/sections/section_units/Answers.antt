@@ -1,4 +1,4 @@
-use Rattle.std.proofs.Common.{◌≡◌, ◌∙◌, List, ℕ, Some, None, sym, subst}
+use Rattle.std.proofs.Common.{◌≡◌, ◌∙◌, List, ℕ, Some, sym, subst}
 use Rattle.std.specs.Prelude.{IsTrue}
 use Rattle.volume_store.specs.Writes.{cart_file}
 use Rattle.recover_files.specs.Sections.{LacksFirst, LacksMark, LacksLabel, HasUnits, by_first_block, by_its_mark, by_the_label, by_none_of_them}
