@@ -3,9 +3,11 @@
 ghost use Rattle.std.specs.Prelude.{◌≡◌, IfOk};
 ghost use Rattle.catalog_spelling.specs.Reading.{Gives};
 ghost use Rattle.catalog_spelling.specs.SnapshotOrder.{AreInOrder};
-ghost use Rattle.catalog_spelling.specs.SnapshotResources.{can_follow, has_lasting, lists_at, more_at};
+ghost use Rattle.catalog_spelling.specs.SnapshotResources.{can_follow, has_lasting};
+ghost use Rattle.catalog_spelling.specs.SnapshotResources.{lists_at, more_at};
 ghost use Rattle.catalog_spelling.specs.SnapshotResources.{next_at, no_resources};
-ghost use Rattle.catalog_spelling.specs.SnapshotResources.{with_policy_at, with_pool_at, with_client_at};
+ghost use Rattle.catalog_spelling.specs.SnapshotResources.{with_policy_at, with_pool_at};
+ghost use Rattle.catalog_spelling.specs.SnapshotResources.{with_client_at};
 ghost use Rattle.catalog_spelling.specs.SnapshotResources.{with_schedule_at, with_group_at};
 
 use crate::names::is_there;
